@@ -1,0 +1,54 @@
+// What the crates above are written with: numbers from bytes, low byte first, and copying into a lent slice.
+ghost use mathlib.Core.Path.{_≡_};
+ghost use Prim.Native.Nat.{_+_, _-_, _*_, _≤_, min};
+ghost use lib.ListN.{length};
+ghost use lib.Seq.{paste};
+ghost use Rattle.rules.specs.Words.{bytes4};
+
+pub fn word(a: u8, b: u8) -> u16
+    ensures { λ r. ⌜ r ≡ a + 256 * b ⌝ }
+{
+    a as u16 + 256 * b as u16
+}
+
+pub fn long(a: u8, b: u8, c: u8, d: u8) -> u32
+    ensures { λ r. ⌜ r ≡ a + 256 * b + 65536 * (c + 256 * d) ⌝ }
+{
+    word(a, b) as u32 + 65536 * word(c, d) as u32
+}
+
+pub fn bytes_of(n: u32) -> [u8; 4]
+    ensures { λ r. ⌜ r ≡ bytes4 n ⌝ }
+{
+    [
+        (n % 256) as u8,
+        (n / 256 % 256) as u8,
+        (n / 65536 % 256) as u8,
+        (n / 16777216 % 256) as u8,
+    ]
+}
+
+fn copy_all(dst: &mut [u8], at: usize, src: &[u8], n: usize)
+    requires { ⌜ (at + n ≤ length (now dst)) × (n ≤ length (now src)) ⌝ }
+    ensures { λ r. ⌜ now (dst .exit) ≡ paste (now (dst .entry)) at (now (src .entry)) n ⌝ }
+{
+    let mut i = 0;
+    while i < n {
+        dst[at + i] = src[i];
+        i += 1;
+    }
+}
+
+// Copies src into dst, from `at` on and as far as dst goes.
+pub fn copy(dst: &mut [u8], at: usize, src: &[u8])
+    ensures { λ r. ⌜ now (dst .exit) ≡ paste (now (dst .entry)) at (now (src .entry)) (min (length (now (src .entry))) (length (now (dst .entry)) - at)) ⌝ }
+{
+    if at < dst.len() {
+        let room = dst.len() - at;
+        if src.len() < room {
+            copy_all(dst, at, src, src.len());
+        } else {
+            copy_all(dst, at, src, room);
+        }
+    }
+}

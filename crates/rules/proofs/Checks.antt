@@ -1,0 +1,120 @@
+-- Laws of the two tables that every event is read by: an ordered list of checks, and the request table.
+use mathlib.Core.Path.{_≡_, refl}
+use mathlib.Core.Bool.{Bool, true, false, cond, not, _&&_, _||_, false≢true, and-eq-true-iff}
+use mathlib.Core.List.{List, [], _∷_}
+use Prim.Native.Nat.{ℕ}
+use lib.Dec.{eqb, ltb}
+use lib.ListN.{length}
+use borrow.Author.Tests.{eqb-true, eqb-false, not-true, not-false}
+use Rattle.rules.specs.declared.Request.{Request}
+use Rattle.rules.specs.declared.Request.the-variants.{LoadConfigData, Unknown}
+use Rattle.rules.specs.declared.Setup.{Setup}
+use Rattle.rules.specs.Words.{Check, first}
+use Rattle.rules.specs.Requests.{Row, table, fits, lookup, setupOf, requestOf, isA, inBytes, inMemory, address, sent}
+use Rattle.rules.specs.Answers.{requestChecks, requestAnswer}
+use Rattle.rules.specs.Step.{damaged}
+
+-- what is picked by a test has a property that both have
+picked : {A : Type 0} (has : A → Bool) (t : Bool) (x y : A) → (t ≡ true → has x ≡ true) → has y ≡ true → has (cond t x y) ≡ true
+picked has true x y h k = h refl
+picked has false x y h k = k
+
+-- 0 and the number of every check have a property
+abbrev pub allNumbers : (ℕ → Bool) → List Check → Bool
+allNumbers has [] = has 0
+allNumbers has (c ∷ cs) = has (c .number) && allNumbers has cs
+
+-- so has the answer
+pub answer-has : (has : ℕ → Bool) (cs : List Check) → allNumbers has cs ≡ true → has (first cs) ≡ true
+answer-has has [] h = h
+answer-has has (c ∷ cs) h =
+    let k = and-eq-true-iff _ _ .0 h in
+    picked has (c .applies) (c .number) (first cs) (λ _. k .0) (answer-has has cs (k .1))
+
+-- none of the checks applies
+abbrev pub Passed : List Check → Type 0
+Passed [] = Unit {0}
+Passed (c ∷ cs) = (c .applies ≡ false) × Passed cs
+
+abbrev pub numbered : List Check → Bool
+numbered [] = true
+numbered (c ∷ cs) = not (eqb (c .number) 0) && numbered cs
+
+pub passed : (cs : List Check) → numbered cs ≡ true → first cs ≡ 0 → Passed cs
+passed [] n h = tt
+passed (c ∷ cs) n h = go (c .applies) refl (eqb (c .number) 0) refl n h (passed cs)
+  where
+    go : (t : Bool) → c .applies ≡ t → (z : Bool) → eqb (c .number) 0 ≡ z → (not z && numbered cs) ≡ true → cond t (c .number) (first cs) ≡ 0
+        → (numbered cs ≡ true → first cs ≡ 0 → Passed cs) → (c .applies ≡ false) × Passed cs
+    go true e true z n h ih = absurd (false≢true n)
+    go true e false z n h ih = absurd (eqb-false _ 0 z h)
+    go false e true z n h ih = absurd (false≢true n)
+    go false e false z n h ih = (e, ih n h)
+
+-- no control request is answered 13 or 14
+pub request-undamaged : (configured : Bool) (m : ℕ) (setup : List ℕ) (host room : ℕ)
+    → damaged (requestAnswer configured m setup host room) ≡ false
+unfolding requestAnswer
+request-undamaged configured m setup host room =
+    not-true _
+    (answer-has (λ n. not (damaged n)) (requestChecks configured m (length setup) (setupOf setup) (requestOf (setupOf setup)) host room) refl)
+
+-- Unknown, and the request of every row whose kind and code pass a test, have a property
+abbrev pub allRows : (ℕ → ℕ → Bool) → (Request → Bool) → List Row → Bool
+allRows test has [] = has Unknown
+allRows test has (r ∷ rs) = (not (test (r .kind) (r .code)) || has (r .names)) && allRows test has rs
+
+-- a row that a setup fits passes every test of kind and code that the setup passes
+row-passes : (test : ℕ → ℕ → Bool) (r : Row) (s : Setup) → fits r s ≡ true → test (s .kind) (s .code) ≡ true
+    → test (r .kind) (r .code) ≡ true
+row-passes test r s f h =
+    let e = both (eqb (s .kind) (r .kind)) (eqb (s .code) (r .code)) _ _ _ f in
+    rw (eqb-true (s .kind) _ (e .0), eqb-true (s .code) _ (e .1)) at h
+  where
+    both : (a b c d e : Bool) → (a && b && c && d && e) ≡ true → (a ≡ true) × (b ≡ true)
+    both true true c d e h = (refl, refl)
+    both true false c d e h = absurd (false≢true h)
+    both false b c d e h = absurd (false≢true h)
+
+lookup-has : (test : ℕ → ℕ → Bool) (has : Request → Bool) (rs : List Row) (s : Setup) → test (s .kind) (s .code) ≡ true
+    → allRows test has rs ≡ true → has (lookup rs s) ≡ true
+lookup-has test has [] s h k = k
+lookup-has test has (r ∷ rs) s h k =
+    let t = and-eq-true-iff (not (test (r .kind) (r .code)) || has (r .names)) (allRows test has rs) .0 k in
+    picked has (fits r s) (r .names) (lookup rs s) (λ f. rw (row-passes test r s f h) at (t .0)) (lookup-has test has rs s h (t .1))
+
+-- so has the request that a setup makes, if its kind and code pass the test
+pub request-has : (test : ℕ → ℕ → Bool) (has : Request → Bool) (s : Setup) → test (s .kind) (s .code) ≡ true
+    → allRows test has table ≡ true → has (requestOf s) ≡ true
+unfolding requestOf
+request-has test has s = lookup-has test has table s
+
+-- ---- what an accepted request has passed
+
+pub request-passed : (c : Bool) (m : ℕ) (setup : List ℕ) (host room : ℕ) → requestAnswer c m setup host room ≡ 0
+    → Passed (requestChecks c m (length setup) (setupOf setup) (requestOf (setupOf setup)) host room)
+unfolding requestAnswer
+request-passed c m setup host room h = passed (requestChecks c m (length setup) (setupOf setup) (requestOf (setupOf setup)) host room) refl h
+
+-- LOAD_CONFIG_DATA goes out from the host
+load-goes-out : (s : Setup) → requestOf s ≡ LoadConfigData → ltb (s .kind) 0x80 ≡ true
+load-goes-out s e = go (ltb (s .kind) 0x80) refl
+  where
+    go : (t : Bool) → ltb (s .kind) 0x80 ≡ t → t ≡ true
+    go true h = refl
+    go false h =
+        absurd (false≢true (rw e at (request-has (λ kind code. not (ltb kind 0x80)) (λ r. not (isA LoadConfigData r)) s (rw h) refl)))
+
+-- an accepted write has a place and a writable address, and the host has sent it whole
+pub accepted-write : (c : Bool) (m : ℕ) (setup : List ℕ) (host room : ℕ)
+    → (let s = setupOf setup in
+    requestOf s ≡ LoadConfigData → requestAnswer c m setup host room ≡ 0
+    → ((inBytes (s .value) || inMemory (s .value)) ≡ true) × (address true m (s .value) (s .index) (s .length) ≡ true) × (host ≡ s .length))
+accepted-write c m setup host room e z =
+    let s = setupOf setup in
+    let p = request-passed c m setup host room z in
+    let whole : host ≡ sent s = eqb-true host (sent s) (not-false _ (p .1 .1 .1 .1 .1 .1 .1 .1 .0)) in (
+      not-false _ (rw e at (p .1 .1 .1 .0)),
+      not-false _ (rw e at (p .1 .1 .1 .1 .1 .0)),
+      rw (load-goes-out s e) at whole,
+    )

@@ -1,0 +1,10 @@
+-- The proofs of specs/Demands, file by file.
+pub mod Refusals
+pub mod Requests
+pub mod Operations
+pub mod Cases
+pub mod Boundary
+pub mod Vendor
+pub mod WellFormed
+pub mod Examples
+pub mod ShutOut

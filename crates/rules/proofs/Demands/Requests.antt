@@ -1,0 +1,218 @@
+-- Demand 2, requests, proved.
+use mathlib.Core.Path.{_≡_, refl, sym, ap, _∙_}
+use mathlib.Core.Logic.{_⊎_, inl, inr}
+use mathlib.Core.Bool.{Bool, true, false, cond, not, _&&_, _||_, true≢false, false≢true, and-eq-true-iff, or-true}
+use mathlib.Core.List.{List, [], _∷_, _++_}
+use Prim.Native.Nat.{ℕ, _+_, _-_, _*_, _/_, _%_, _<_, _≤_}
+use native.Mathlib.Omega.{arith}
+use lib.ListN.{length, take, drop, length-drop, List·getD-append}
+use lib.Seq.{paste, length-paste, length-paste-head, length-take-le, getD-take, getD-drop, getD-append-add}
+use lib.Dec.{eqb, leb, ltb}
+use borrow.Author.Tests.{eq-eqb, eqb-true, ltb-true, ltb-false, leb-true, leb-false, not-true, not-false}
+use Rattle.rules.specs.declared.Bridge.{Bridge}
+use Rattle.rules.specs.declared.CommandPacket.{CommandPacket}
+use Rattle.rules.specs.declared.Direction.{Direction}
+use Rattle.rules.specs.declared.Direction.the-variants.{None, In, Out}
+use Rattle.rules.specs.declared.Phase.{Phase}
+use Rattle.rules.specs.declared.Phase.the-variants.{Awaiting, Busy, StatusWaiting, Stopped}
+use Rattle.rules.specs.declared.Request.{Request}
+use Rattle.rules.specs.declared.Request.the-variants.{SetConfiguration, GetConfiguration, ClearFeature, GetStatus, GetMaxLun, MassStorageReset, LoadConfigData, ReadConfigData, SoftReset, BogusRead, Unknown}
+use Rattle.rules.specs.declared.Setup.{Setup}
+use Rattle.rules.specs.declared.Status.the-variants.{Failed}
+use Rattle.rules.specs.Words.{byte, word}
+use Rattle.rules.specs.Held.{World, sizeOf, inPhase, halting}
+use Rattle.rules.specs.Requests.{setupOf, requestOf, needsConfiguration, inBytes, inMemory, address, isA, bridgeAfter}
+use Rattle.rules.specs.Packets.{commandOf, directionOf, recognises, commandTaken}
+use Rattle.rules.specs.Reports.{mismatch, haltedBy, reportTaken}
+use Rattle.rules.specs.Stopping.{stop}
+use Rattle.rules.specs.Answers.{requestAnswer, packetAnswer, reportAnswer, statusAnswer}
+use Rattle.rules.proofs.Checks.{request-has, request-passed, accepted-write}
+use Rattle.rules.specs.Step.{Event, BusReset, Control, Packet, Report, StatusRequest, answer, bridgeDone, memoryDone, done, damaged, step}
+use Rattle.rules.specs.Demands.Requests.{WholeFields, Unconfigured, Holds, ExactWrites, NoOtherWrites, ExactReads}
+
+whole : (x : ℕ) → x % 256 + 256 * (x / 256) ≡ x
+whole x = omega arith
+
+pub whole-fields : WholeFields setupOf
+whole-fields kind code value index n v i l = simp whole
+
+needs : (kind : ℕ) → (kind / 32 % 4 ≡ 1) ⊎ ((kind / 32 % 4 ≡ 2) ⊎ (kind % 32 ≡ 2)) → needsConfiguration kind ≡ true
+needs kind (inl h) = rw h
+needs kind (inr (inl h)) = rw h
+needs kind (inr (inr h)) = rw h (simp or-true)
+
+pub unconfigured : Unconfigured step
+unfolding step requestAnswer packetAnswer reportAnswer statusAnswer
+unconfigured w BusReset c g = absurd g
+unconfigured w (Control setup host room) c g = rw (c, eq-eqb _ _ (g .0), needs (byte 0 setup) (g .1))
+unconfigured w (Packet p room) c g = rw c
+unconfigured w (Report direction failed amount) c g = rw c
+unconfigured w (StatusRequest room) c g = rw c
+
+-- ---- exact writes
+
+-- the pair 40, 01 names LOAD_CONFIG_DATA
+is-load : (s : Setup) → s .kind ≡ 0x40 → s .code ≡ 0x01 → requestOf s ≡ LoadConfigData
+unfolding requestOf
+is-load s k c = rw (k, c)
+
+-- byte k of a store into which n bytes were pasted
+pasted : (store host : List ℕ) (start n : ℕ) → start + n ≤ length store → length host ≡ n → Holds true start n host store (paste store start host n)
+pasted store host start n fits h = (length-paste store start host n fits (omega arith), λ k. at k (leb start k) refl (ltb k (start + n)) refl)
+  where
+    head : length (take start store) ≡ start
+    head = length-take-le start store (omega arith)
+
+    front : length (take start store ++ take n host) ≡ start + n
+    front = length-paste-head store start host n (omega arith) (omega arith)
+
+    at : (k : ℕ) (t : Bool) → leb start k ≡ t → (u : Bool) → ltb k (start + n) ≡ u
+        → byte k (paste store start host n) ≡ cond (t && u) (byte (k - start) host) (byte k store)
+    at k false e u f =
+        let l : k < start = leb-false start k e in
+        List·getD-append (take start store ++ take n host) (drop (start + n) store) 0 k (omega (arith, front))
+        ∙ List·getD-append (take start store) (take n host) 0 k (omega (arith, head))
+        ∙ getD-take start store k 0 l
+    at k true e true f =
+        let l : k < start + n = ltb-true k (start + n) f in
+        let g : start ≤ k = leb-true start k e in
+        let i : k ≡ length (take start store) + (k - start) = omega (arith, head) in
+        List·getD-append (take start store ++ take n host) (drop (start + n) store) 0 k (omega (arith, front))
+        ∙ ap (λ (j : ℕ). byte j (take start store ++ take n host)) i
+        ∙ getD-append-add (take start store) (take n host) (k - start) 0
+        ∙ getD-take n host (k - start) 0 (omega arith)
+    at k true e false f =
+        let g : start + n ≤ k = ltb-false k (start + n) f in
+        let i : k ≡ length (take start store ++ take n host) + (k - (start + n)) = omega (arith, front) in
+        let j : start + n + (k - (start + n)) ≡ k = omega arith in
+        ap (λ (j : ℕ). byte j (paste store start host n)) i
+        ∙ getD-append-add (take start store ++ take n host) (drop (start + n) store) (k - (start + n)) 0
+        ∙ getD-drop (start + n) store (k - (start + n)) 0
+        ∙ ap (λ (x : ℕ). byte x store) j
+
+two-places : (place : ℕ) → inBytes place ≡ true → inMemory place ≡ true → ⊥
+two-places place p q = let a : place ≡ 0 = eqb-true place 0 p in let b : place ≡ 2 = eqb-true place 2 q in omega arith
+
+-- a write at an address that is right changes the bytes or the memory
+module _ (m : ℕ) (place start n : ℕ) (b memory host : List ℕ) (sixteen : length b ≡ 16) (size : m ≤ length memory) (long : length host ≡ n) where
+  held : (inBytes place || inMemory place) ≡ true → address true m place start n ≡ true
+      → Holds (inBytes place) start n host b (cond (inMemory place) b (paste b start host n))
+      × Holds (inMemory place) start n host memory (cond (inMemory place) (paste memory start host n) memory)
+  unfolding address
+  held p a = go (inBytes place) refl (inMemory place) refl p a
+    where
+      go : (x : Bool) → inBytes place ≡ x → (y : Bool) → inMemory place ≡ y → (x || y) ≡ true
+          → cond y (ltb start m && leb (start + n) m) (leb 2 start && leb start 15 && leb (start + n) 16) ≡ true
+          → Holds x start n host b (cond y b (paste b start host n)) × Holds y start n host memory (cond y (paste memory start host n) memory)
+      go true ex true ey p a = absurd (two-places place ex ey)
+      go false ex true ey p a =
+          let l : start + n ≤ m = leb-true (start + n) m (and-eq-true-iff (ltb start m) (leb (start + n) m) .0 a .1) in
+          ((refl, λ k. refl), pasted memory host start n (omega arith) long)
+      go true ex false ey p a =
+          let l : start + n ≤ 16 = leb-true (start + n) 16 (and-eq-true-iff (leb 2 start && leb start 15) (leb (start + n) 16) .0 a .1) in
+          (pasted b host start n (omega arith) long, (refl, λ k. refl))
+      go false ex false ey p a = absurd (false≢true p)
+
+pub exact-writes : ExactWrites step
+unfolding step
+exact-writes w setup host room sixteen i a =
+    let pair = and-eq-true-iff (eqb (byte 0 setup) 0x40) (eqb (byte 1 setup) 0x01) .0 i in
+    let load : requestOf (setupOf setup) ≡ LoadConfigData = is-load (setupOf setup) (eqb-true _ _ (pair .0)) (eqb-true _ _ (pair .1)) in
+    let p = accepted-write (w .bridge .configured) (sizeOf (w .memory)) setup (length host) room load a in
+    rw (a, load)
+    (held (sizeOf (w .memory)) (word 2 setup) (word 4 setup) (word 6 setup) (w .bridge .bytes) (w .memory) host sixteen (omega arith) (p .2) (p .0) (p .1))
+
+-- ---- no other writes
+
+-- any other pair names another request
+not-load : (s : Setup) → (eqb (s .kind) 0x40 && eqb (s .code) 0x01) ≡ false → isA LoadConfigData (requestOf s) ≡ false
+not-load s h =
+    not-true _ (request-has (λ kind code. not (eqb kind 0x40 && eqb code 0x01)) (λ r. not (isA LoadConfigData r)) s (rw h) refl)
+
+-- an event that, done, keeps both places keeps them whatever its answer
+untouched : (w : World) (e : Event) → bridgeDone (w .bridge) e .bytes ≡ w .bridge .bytes → memoryDone (w .memory) e ≡ w .memory
+    → (step w e .next .bridge .bytes ≡ w .bridge .bytes) × (step w e .next .memory ≡ w .memory)
+unfolding step
+untouched w e b m = (bytes (done (answer w e)) (damaged (answer w e)), memory (done (answer w e)))
+  where
+    bytes : (t u : Bool) → cond t (bridgeDone (w .bridge) e) (cond u (stop (w .bridge)) (w .bridge)) .bytes ≡ w .bridge .bytes
+    bytes true u = b
+    bytes false true = refl
+    bytes false false = refl
+
+    memory : (t : Bool) → cond t (memoryDone (w .memory) e) (w .memory) ≡ w .memory
+    memory true = m
+    memory false = refl
+
+halting-bytes : (d : Direction) (b : Bridge) → halting d b .bytes ≡ b .bytes
+halting-bytes None b = refl
+halting-bytes In b = refl
+halting-bytes Out b = refl
+
+request-bytes : (r : Request) (s : Setup) (host : List ℕ) (b : Bridge) → isA LoadConfigData r ≡ false → bridgeAfter r s host b .bytes ≡ b .bytes
+request-bytes SetConfiguration s host b h = refl
+request-bytes GetConfiguration s host b h = refl
+request-bytes ClearFeature s host b h = refl
+request-bytes GetStatus s host b h = refl
+request-bytes GetMaxLun s host b h = refl
+request-bytes MassStorageReset s host b h = refl
+request-bytes LoadConfigData s host b h = absurd (true≢false h)
+request-bytes ReadConfigData s host b h = refl
+request-bytes SoftReset s host b h = refl
+request-bytes BogusRead s host b h = refl
+request-bytes Unknown s host b h = refl
+
+command-bytes : (t : Bool) (c : CommandPacket) (b : Bridge) → commandTaken t c b .bytes ≡ b .bytes
+command-bytes true c b = refl
+command-bytes false c b = halting-bytes (directionOf c) (inPhase (StatusWaiting (c .tag) (c .length) Failed) b)
+
+report-bytes : (direction failed amount : ℕ) (p : Phase) (b : Bridge) → reportTaken direction failed amount p b .bytes ≡ b .bytes
+report-bytes direction failed amount Awaiting b = refl
+report-bytes direction failed amount (Busy tag l host) b = halting-bytes (haltedBy (mismatch l host direction amount) l host amount) _
+report-bytes direction failed amount (StatusWaiting tag residue status) b = refl
+report-bytes direction failed amount (Stopped reset) b = refl
+
+pub no-other-writes : NoOtherWrites step
+no-other-writes w BusReset h = untouched w BusReset refl refl
+no-other-writes w (Control setup host room) h =
+    let r : isA LoadConfigData (requestOf (setupOf setup)) ≡ false = not-load (setupOf setup) h in
+    untouched w (Control setup host room) (request-bytes (requestOf (setupOf setup)) (setupOf setup) host (w .bridge) r) (rw r)
+no-other-writes w (Packet p room) h =
+    untouched w (Packet p room) (command-bytes (recognises (w .bridge) p) (commandOf p) (w .bridge)) refl
+no-other-writes w (Report direction failed amount) h =
+    untouched w (Report direction failed amount) (report-bytes direction failed amount (w .bridge .phase) (w .bridge)) refl
+no-other-writes w (StatusRequest room) h = untouched w (StatusRequest room) refl refl
+
+-- ---- exact reads
+
+-- the pair C0, 02 names READ_CONFIG_DATA
+is-read : (s : Setup) → s .kind ≡ 0xC0 → s .code ≡ 0x02 → requestOf s ≡ ReadConfigData
+unfolding requestOf
+is-read s k c = rw (k, c)
+
+-- an address that is right lies in its place
+inside : (m place start n : ℕ) (b memory : List ℕ) → length b ≡ 16 → m ≤ length memory → address false m place start n ≡ true
+    → start + n ≤ length (cond (inMemory place) memory b)
+unfolding address
+inside m place start n b memory sixteen size a = go (inMemory place) a
+  where
+    go : (y : Bool) → cond y (ltb start m && leb (start + n) m) (leb 0 start && leb start 15 && leb (start + n) 16) ≡ true
+        → start + n ≤ length (cond y memory b)
+    go true a = let l : start + n ≤ m = leb-true (start + n) m (and-eq-true-iff (ltb start m) (leb (start + n) m) .0 a .1) in omega arith
+    go false a =
+        let l : start + n ≤ 16 = leb-true (start + n) 16 (and-eq-true-iff (leb 0 start && leb start 15) (leb (start + n) 16) .0 a .1) in
+        omega arith
+
+pub exact-reads : ExactReads step
+unfolding step
+exact-reads w setup host room sixteen kind code a =
+    let read : requestOf (setupOf setup) ≡ ReadConfigData = is-read (setupOf setup) kind code in
+    let p = request-passed (w .bridge .configured) (sizeOf (w .memory)) setup (length host) room a in
+    let store : List ℕ = cond (inMemory (word 2 setup)) (w .memory) (w .bridge .bytes) in
+    let fits : word 4 setup + word 6 setup ≤ length store =
+    inside (sizeOf (w .memory)) (word 2 setup) (word 4 setup) (word 6 setup) (w .bridge .bytes) (w .memory) sixteen (omega arith)
+    (not-false (address false (sizeOf (w .memory)) (word 2 setup) (word 4 setup) (word 6 setup)) (rw read at (p .1 .1 .1 .1 .1 .0))) in
+    rw (a, read) (
+      length-take-le (word 6 setup) (drop (word 4 setup) store) (simp length-drop (omega arith)),
+      λ k l. getD-take (word 6 setup) (drop (word 4 setup) store) k 0 l ∙ getD-drop (word 4 setup) store k 0,
+    )

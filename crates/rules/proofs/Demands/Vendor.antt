@@ -1,0 +1,52 @@
+-- Vendor requests work throughout a stop, and read and write as if no stop stood.
+use mathlib.Core.Path.{_≡_, refl}
+use mathlib.Core.Bool.{Bool, true, false, cond, _||_, false≢true}
+use mathlib.Core.List.{List, []}
+use Prim.Native.Nat.{ℕ, _/_, _%_}
+use lib.Dec.{eqb}
+use lib.ListN.{length}
+use borrow.Author.Tests.{eq-eqb}
+use Rattle.rules.specs.declared.Bridge.{Bridge}
+use Rattle.rules.specs.declared.Phase.the-variants.{Stopped}
+use Rattle.rules.specs.declared.Request.{Request}
+use Rattle.rules.specs.declared.Request.the-variants.{SetConfiguration, GetConfiguration, ClearFeature, GetStatus, GetMaxLun, MassStorageReset, LoadConfigData, ReadConfigData, SoftReset, BogusRead, Unknown}
+use Rattle.rules.specs.declared.Setup.{Setup}
+use Rattle.rules.specs.Held.{world, sizeOf, holding, inPhase, halted}
+use Rattle.rules.specs.Requests.{setupOf, requestOf, isA, hasPlace, replyTo, bridgeAfter}
+use Rattle.rules.specs.Answers.{requestAnswer}
+use Rattle.rules.specs.Step.{step, done}
+use Rattle.rules.specs.Demands.Boundary.{VendorInStop}
+use Rattle.rules.proofs.Checks.{request-undamaged, request-has}
+
+-- a vendor request, or none
+abbrev vendor : Request → Bool
+vendor q = hasPlace q || isA SoftReset q || isA BogusRead q || isA Unknown q
+
+-- a vendor request, accepted or not, of a stopped bridge and of the same bridge had it not stopped
+module _ (b : Bridge) (m : List ℕ) (reset o i : Bool) (s : Setup) (host : List ℕ) where
+  abbrev stopped : Bridge
+  stopped = inPhase (Stopped reset) (halted o i b)
+
+  alike : (q : Request) (t : Bool) → vendor q ≡ true
+      → (_≡_ {A = List ℕ} (cond t (replyTo q s (world stopped m)) []) (cond t (replyTo q s (world b m)) []))
+      × (cond t (bridgeAfter q s host stopped) stopped ≡ holding (cond t (bridgeAfter q s host b) b .bytes) stopped)
+  alike q false v = (refl, refl)
+  alike SetConfiguration true v = absurd (false≢true v)
+  alike GetConfiguration true v = absurd (false≢true v)
+  alike ClearFeature true v = absurd (false≢true v)
+  alike GetStatus true v = absurd (false≢true v)
+  alike GetMaxLun true v = absurd (false≢true v)
+  alike MassStorageReset true v = absurd (false≢true v)
+  alike LoadConfigData true v = (refl, refl)
+  alike ReadConfigData true v = (refl, refl)
+  alike SoftReset true v = (refl, refl)
+  alike BogusRead true v = (refl, refl)
+  alike Unknown true v = (refl, refl)
+
+pub vendor-in-stop : VendorInStop step
+unfolding step
+vendor-in-stop b m reset o i setup host room k =
+    let s = setupOf setup in
+    let v = request-has (λ kind code. eqb (kind / 32 % 4) 2) vendor s (eq-eqb _ 2 k) refl in
+    let a = alike b m reset o i s host (requestOf s) (done (requestAnswer (b .configured) (sizeOf m) setup (length host) room)) v in
+    rw request-undamaged (refl, a .0, refl, a .1)

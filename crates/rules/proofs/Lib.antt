@@ -1,0 +1,4 @@
+pub mod Checks
+pub mod Promises
+pub mod Unique
+pub mod Demands

@@ -1,0 +1,76 @@
+-- Answer numbers: each event's checks, in the paper's order. The first that applies gives its number; where none does, 0.
+use Prim.Native.Nat.{ℕ}
+use mathlib.Core.Bool.{Bool, true, false, cond, not, _&&_, _||_}
+use mathlib.Core.List.{List, [], _∷_}
+use lib.ListN.{length}
+use lib.Dec.{eqb, ltb}
+use Rattle.rules.specs.declared.Bridge.{Bridge}
+use Rattle.rules.specs.declared.Request.{Request}
+use Rattle.rules.specs.declared.Request.the-variants.{LoadConfigData, Unknown}
+use Rattle.rules.specs.declared.Setup.{Setup}
+use Rattle.rules.specs.Words.{Check, _if_, first}
+use Rattle.rules.specs.Held.{isAwaiting, isBusy, isStatusWaiting, isStopped}
+use Rattle.rules.specs.Requests.{setupOf, requestOf, isA, hasPlace, needsConfiguration, inBytes, inMemory, address, atEight, onePage, sent, returned}
+use Rattle.rules.specs.Packets.{statusLayout, commandOf, valid, meaningful}
+use Rattle.rules.specs.Reports.{malformed}
+
+-- a memory write
+abbrev pub programs : Request → Setup → Bool
+programs r s = isA LoadConfigData r && inMemory (s .value)
+
+-- "Order for requests: 1, 4, 5, 6, 7, 8, 9, 10, 2, 3."
+abbrev pub requestChecks : Bool → ℕ → ℕ → Setup → Request → ℕ → ℕ → List Check
+requestChecks configured m bytes s r host room =
+    1 if not (eqb bytes 8) ∷
+    4 if (not configured && needsConfiguration (s .kind)) ∷
+    5 if isA Unknown r ∷
+    6 if (hasPlace r && not (inBytes (s .value) || inMemory (s .value))) ∷
+    7 if (hasPlace r && inMemory (s .value) && eqb m 0) ∷
+    8 if (hasPlace r && not (address (isA LoadConfigData r) m (s .value) (s .index) (s .length))) ∷
+    9 if (programs r s && not (atEight (s .index))) ∷
+    10 if (programs r s && not (onePage (s .index) (s .length))) ∷
+    2 if not (eqb host (sent s)) ∷
+    3 if ltb room (returned s) ∷
+    []
+
+-- The answer to a request comes from the configuration, M, the setup, and how many bytes the host sent and there is room for.
+unfoldable pub requestAnswer : Bool → ℕ → List ℕ → ℕ → ℕ → ℕ
+requestAnswer configured m setup host room =
+    first (requestChecks configured m (length setup) (setupOf setup) (requestOf (setupOf setup)) host room)
+
+-- "For packets: 4, 11, 16, 13, 14, 15." `needed` is how many operations the packet makes.
+abbrev pub packetChecks : Bridge → List ℕ → ℕ → ℕ → List Check
+packetChecks b p needed room =
+    4 if not (b .configured) ∷
+    11 if (isStopped (b .phase) || b .halts .outward) ∷
+    16 if not (isAwaiting (b .phase)) ∷
+    13 if not (valid p) ∷
+    14 if not (meaningful (commandOf p)) ∷
+    15 if ltb room needed ∷
+    []
+
+unfoldable pub packetAnswer : Bridge → List ℕ → ℕ → ℕ → ℕ
+packetAnswer b p needed room = first (packetChecks b p needed room)
+
+-- "For reports: 4, 16, 17."
+abbrev pub reportChecks : Bridge → ℕ → ℕ → ℕ → List Check
+reportChecks b direction failed amount =
+    4 if not (b .configured) ∷
+    16 if not (isBusy (b .phase)) ∷
+    17 if malformed direction failed amount ∷
+    []
+
+unfoldable pub reportAnswer : Bridge → ℕ → ℕ → ℕ → ℕ
+reportAnswer b direction failed amount = first (reportChecks b direction failed amount)
+
+-- "For status: 4, 11, 16, 3."
+abbrev pub statusChecks : Bridge → ℕ → List Check
+statusChecks b room =
+    4 if not (b .configured) ∷
+    11 if (isStopped (b .phase) || b .halts .inward) ∷
+    16 if not (isStatusWaiting (b .phase)) ∷
+    3 if ltb room (statusLayout .length) ∷
+    []
+
+unfoldable pub statusAnswer : Bridge → ℕ → ℕ
+statusAnswer b room = first (statusChecks b room)

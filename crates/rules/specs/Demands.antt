@@ -1,0 +1,9 @@
+-- The demands and the paper's promises, each as a property of a machine. proofs/Demands shows that `step` has them all.
+pub mod Refusals
+pub mod Requests
+pub mod Operations
+pub mod Cases
+pub mod Boundary
+pub mod WellFormed
+pub mod Examples
+pub mod ShutOut

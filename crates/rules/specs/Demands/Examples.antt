@@ -1,0 +1,119 @@
+-- The examples of document 01 that are marked P, as one table; and the story of one stop.
+use mathlib.Core.Path.{_≡_}
+use mathlib.Core.Bool.{Bool, true, false, not, _&&_}
+use mathlib.Core.List.{List, [], _∷_, _++_}
+use Prim.Native.Nat.{ℕ}
+use lib.ListN.{length, replicate}
+use lib.Dec.{eqb}
+use Rattle.rules.specs.declared.Phase.{Phase}
+use Rattle.rules.specs.declared.Phase.the-variants.{Awaiting, Busy, StatusWaiting, Stopped}
+use Rattle.rules.specs.Held.{World, world, powerOn, bulkOut, bulkIn}
+use Rattle.rules.specs.Packets.{statusNumber}
+use Rattle.rules.specs.Step.{Event, Control, Packet, Report, StatusRequest, Outcome, Machine, after}
+use Rattle.rules.specs.Demands.Requests.{wire}
+use Rattle.rules.specs.Demands.Boundary.{unbroken, boundary, keptWrites}
+
+-- ---- how the events of the examples are written
+
+abbrev pub configure : Event
+configure = Control (wire 0x00 0x09 2 0 0) [] 0
+
+-- LOAD_CONFIG_DATA of n bytes
+abbrev pub write : ℕ → ℕ → ℕ → Event
+write place start n = Control (wire 0x40 0x01 place start n) (replicate n 0x5A) 0
+
+-- "block 24 24 80 C0 01, zeros, byte 11 E0, byte 12 EC, L 512 in", with the action as told
+abbrev pub identifying : ℕ → List ℕ
+identifying action =
+    0x55 ∷ 0x53 ∷ 0x42 ∷ 0x43 ∷ 1 ∷ 2 ∷ 3 ∷ 4 ∷ 0 ∷ 2 ∷ 0 ∷ 0 ∷ 0x80 ∷ 0 ∷ 16
+    ∷ 0x24 ∷ 0x24 ∷ action ∷ 0xC0 ∷ 0x01 ∷ 0 ∷ 0 ∷ 0 ∷ 0 ∷ 0 ∷ 0 ∷ 0xE0 ∷ 0xEC ∷ 0 ∷ 0 ∷ 0 ∷ []
+
+abbrev pub identify : ℕ → Event
+identify action = Packet (identifying action) 11
+
+-- "Configured, M = 2,048 unless told."
+abbrev pub ready : Machine → World
+ready s = after s (world powerOn (replicate 2048 0xFF)) (configure ∷ [])
+
+-- ---- what is right of an outcome
+
+abbrev pub same : List ℕ → List ℕ → Bool
+same [] [] = true
+same [] (y ∷ ys) = false
+same (x ∷ xs) [] = false
+same (x ∷ xs) (y ∷ ys) = eqb x y && same xs ys
+
+abbrev pub answers : ℕ → Outcome → Bool
+answers n o = eqb (o .answer) n
+
+abbrev pub makes : List ℕ → Outcome → Bool
+makes ops o = answers 0 o && same (o .operations) ops
+
+abbrev pub waitsWith : ℕ → ℕ → Phase → Bool
+waitsWith residue status Awaiting = false
+waitsWith residue status (Busy tag l direction) = false
+waitsWith residue status (StatusWaiting tag r s) = eqb r residue && eqb (statusNumber s) status
+waitsWith residue status (Stopped reset) = false
+
+abbrev pub reports : ℕ → ℕ → Outcome → Bool
+reports residue status o =
+    answers 0 o && waitsWith residue status (o .next .bridge .phase) && o .next .bridge .halts .inward && not (o .next .bridge .halts .outward)
+
+-- ---- the table: the events before, the event, and what is right of its outcome
+
+pub record Example : Type 0 where
+  pub before : List Event
+  pub event : Event
+  pub wants : Outcome → Bool
+
+abbrev pub example : List Event → Event → (Outcome → Bool) → Example
+example es e f = record { before = es; event = e; wants = f }
+
+abbrev pub table : List Example
+table =
+    example [] (write 0 2 14) (answers 0) ∷
+    example [] (write 0 2 15) (answers 8) ∷
+    example [] (write 0 0x0102 1) (answers 8) ∷
+    example [] (write 2 248 8) (answers 0) ∷
+    example [] (write 2 248 9) (answers 10) ∷
+    example [] (write 2 4 1) (answers 9) ∷
+    example [] (write 2 2048 0) (answers 8) ∷
+    example [] (write 2 2040 8) (answers 0) ∷
+    example [] (identify 0x80) (makes (0x0100 ∷ 0x02E0 ∷ 0x17EC ∷ 0x0311 ∷ 0x2700 ∷ [])) ∷
+    example [] (identify 0x82) (makes (0x0100 ∷ 0x17EC ∷ 0x02E0 ∷ 0x0311 ∷ 0x2700 ∷ [])) ∷
+    example (identify 0x80 ∷ []) (Report 1 0 500) (reports 12 0) ∷
+    example (identify 0x80 ∷ []) (Report 2 0 1) (reports 512 2) ∷
+    []
+
+abbrev pub right : Machine → List Example → Bool
+right s [] = true
+right s (x ∷ xs) = (x .wants) (s (after s (ready s) (x .before)) (x .event)) && right s xs
+
+abbrev pub Examples : Machine → Type 0
+Examples s = right s table ≡ true
+
+-- ---- Demand 3 is not empty: a damaged packet, then a status request, a vendor write, Clear Feature too early, a packet, a Mass Storage Reset,
+-- one pipe, a second reset, the same pipe again, none of them the boundary; then the other pipe, which is; and the next command is done.
+
+abbrev pub clear : ℕ → Event
+clear pipe = Control (wire 0x02 0x01 0 pipe 0) [] 0
+
+abbrev pub reset : Event
+reset = Control (wire 0x21 0xFF 0 0 0) [] 0
+
+abbrev pub since : List Event
+since =
+    StatusRequest 13 ∷ write 2 248 8 ∷ clear bulkOut ∷ clear bulkIn ∷ identify 0x80 ∷ reset ∷ clear bulkIn ∷ reset ∷ clear bulkIn ∷ []
+
+abbrev pub story : Machine → Bool
+story s =
+    let d : Outcome = s (ready s) (Packet [] 11) in
+    let w : World = after s (d .next) since in
+    answers 13 d
+    && unbroken s (d .next) since
+    && eqb (length (keptWrites s (d .next) since)) 1
+    && boundary s w (clear bulkOut)
+    && makes (0x0100 ∷ 0x02E0 ∷ 0x17EC ∷ 0x0311 ∷ 0x2700 ∷ []) (s (s w (clear bulkOut) .next) (identify 0x80))
+
+abbrev pub Story : Machine → Type 0
+Story s = story s ≡ true

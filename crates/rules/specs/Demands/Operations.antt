@@ -1,0 +1,117 @@
+-- Demand 2, operations: what each action bit, the direction and L add, move or change in the list, and how long it is.
+use mathlib.Core.Path.{_≡_}
+use mathlib.Core.Bool.{Bool, true, false, cond, not}
+use mathlib.Core.List.{List, [], _∷_, _++_}
+use Prim.Native.Nat.{ℕ, _+_, _-_, _*_, _<_, _≤_}
+use lib.ListN.{length}
+use lib.Dec.{ltb}
+use Rattle.rules.specs.declared.Direction.{Direction}
+use Rattle.rules.specs.declared.Direction.the-variants.{None, In, Out}
+use Rattle.rules.specs.Words.{byte, bit, bitOf, one}
+use Rattle.rules.specs.Held.{World}
+use Rattle.rules.specs.Packets.{commandOf, blockOf, directionOf, recognises}
+use Rattle.rules.specs.Operations.{Operation, Poll, Select, Write, Read, Transfer, codes, action, selected, content, only, operationsOf}
+use Rattle.rules.specs.Step.{Packet, Machine}
+
+-- "A command block yields exactly its listed register operations."
+abbrev pub ExactOperations : Machine → Type 0
+ExactOperations s =
+    (w : World) (p : List ℕ) (room : ℕ) → s w (Packet p room) .answer ≡ 0
+    → s w (Packet p room) .operations
+    ≡ cond (recognises (w .bridge) p) (codes (operationsOf (blockOf p) (commandOf p .length) (directionOf (commandOf p)))) []
+
+-- two lists that are the same but for one place, where the first has x and the second y
+pub record Differ (before after x y : List Operation) : Type 0 where
+  pub front : List Operation
+  pub back : List Operation
+  pub without : before ≡ front ++ x ++ back
+  pub with : after ≡ front ++ y ++ back
+
+-- block' is block with action bit k set
+pub record Sets (k : ℕ) (block block' : List ℕ) : Type 0 where
+  pub elsewhere : (j : ℕ) → (j ≡ 2 → ⊥) → byte j block' ≡ byte j block
+  pub others : (j : ℕ) → j < 8 → (j ≡ k → ⊥) → bitOf j (action block') ≡ bitOf j (action block)
+  pub clear : bitOf k (action block) ≡ 0
+  pub set : bitOf k (action block') ≡ 1
+
+abbrev pub Lists : Type 0
+Lists = List ℕ → ℕ → Direction → List Operation
+
+-- a block with action bit 0 clear, or set
+abbrev pub Writing : List ℕ → Type 0
+Writing block = bitOf 0 (action block) ≡ 0
+
+abbrev pub Reading : List ℕ → Type 0
+Reading block = bitOf 0 (action block) ≡ 1
+
+-- "Action bit 0 clear: poll; writes of selected 0 to 5, rising; select; write 7 if selected; transfer if L > 0; read 7." (Action bit 1 is told of
+-- below.) "Action bit 0 set: poll, select, reads of selected 0 to 7, rising."
+abbrev pub Listed : Lists → Type 0
+Listed ops =
+    (block : List ℕ) (l : ℕ) (d : Direction)
+    → (let polls = only (not (bit 2 (byte 2 block))) Poll in
+    let write : ℕ → List Operation = λ r. only (bit r (byte 3 block)) (Write r (byte (5 + r) block)) in
+    let read : ℕ → List Operation = λ r. only (bit r (byte 3 block)) (Read r) in
+    (s : ℕ) × (t : ℕ)
+    × (Reading block → ops block l d ≡ polls ++ Select s ∷ [] ++ read 0 ++ read 1 ++ read 2 ++ read 3 ++ read 4 ++ read 5 ++ read 6 ++ read 7)
+    × (Writing block → bitOf 1 (byte 2 block) ≡ 0
+    → ops block l d
+    ≡ polls ++ write 0 ++ write 1 ++ write 2 ++ write 3 ++ write 4 ++ write 5 ++ Select s ∷ [] ++ write 7 ++ only (ltb 0 l) (Transfer t) ++ Read 7 ∷ []))
+
+-- "Poll, first, unless action bit 2 is set."
+abbrev pub PollBit : Lists → Type 0
+PollBit ops = (block block' : List ℕ) (l : ℕ) (d : Direction) → Sets 2 block block' → ops block l d ≡ Poll ∷ ops block' l d
+
+-- "With action bit 1 set, the select follows the place of write 7 instead." In a read block the bit does nothing.
+abbrev pub SelectLast : Lists → Type 0
+SelectLast ops =
+    (block block' : List ℕ) (l : ℕ) (d : Direction) → Sets 1 block block'
+    → (Reading block → ops block l d ≡ ops block' l d)
+    × (Writing block → (b : ℕ) × (let seven = only (selected block 7) (Write 7 (content block 7)) in
+    Differ (ops block l d) (ops block' l d) (Select b ∷ seven) (seven ++ Select b ∷ [])))
+
+-- "in it bit 4 becomes bit 4 of byte 11 if action bit 5 is set, else 0"
+abbrev pub SelectBit : Lists → Type 0
+SelectBit ops =
+    (block block' : List ℕ) (l : ℕ) (d : Direction) → Sets 5 block block'
+    → (b : ℕ) × (b ≡ cond (selected block 6) (byte 11 block - 16 * bitOf 4 (byte 11 block)) 0)
+    × Differ (ops block l d) (ops block' l d) (Select b ∷ []) (Select (b + 16 * bitOf 4 (byte 11 block)) ∷ [])
+
+-- "operand is .. plus 2, 4, 8, 16 for action bits 6, 4, 3, 7": bit k adds n to the operand and changes nothing else
+abbrev pub Weighs : Lists → ℕ → ℕ → Type 0
+Weighs ops k n =
+    (block block' : List ℕ) (l : ℕ) (d : Direction) → Sets k block block'
+    → (Reading block → ops block l d ≡ ops block' l d)
+    × (Writing block → (t : ℕ) × Differ (ops block l d) (ops block' l d) (only (ltb 0 l) (Transfer t)) (only (ltb 0 l) (Transfer (t + n))))
+
+abbrev pub TransferBits : Lists → Type 0
+TransferBits ops = Weighs ops 6 2 × Weighs ops 4 4 × Weighs ops 3 8 × Weighs ops 7 16
+
+-- "operand is 1 if in": the operand of a block that sets none of the four bits
+abbrev pub TransferWay : Lists → Type 0
+TransferWay ops =
+    (block : List ℕ) (l : ℕ) → Writing block → 0 < l
+    → (t : ℕ) × (t ≡ 2 * bitOf 6 (action block) + 4 * bitOf 4 (action block) + 8 * bitOf 3 (action block) + 16 * bitOf 7 (action block))
+    × Differ (ops block l Out) (ops block l In) (Transfer t ∷ []) (Transfer (t + 1) ∷ [])
+
+-- "transfer if L > 0"
+abbrev pub TransferNeedsLength : Lists → Type 0
+TransferNeedsLength ops =
+    (block : List ℕ) (l : ℕ) (d : Direction) → Writing block → 0 < l
+    → (t : ℕ) × Differ (ops block 0 d) (ops block l d) [] (Transfer t ∷ [])
+
+-- how many of the registers are selected
+abbrev pub tally : List ℕ → List ℕ → ℕ
+tally block [] = 0
+tally block (r ∷ rs) = bitOf r (byte 3 block) + tally block rs
+
+-- "At most 11 operations", 10 for a read block; and the number of them: the poll, the select, a read 7 or none, each register, the transfer
+abbrev pub Counted : Lists → Type 0
+Counted ops =
+    (block : List ℕ) (l : ℕ) (d : Direction)
+    → (Reading block
+    → (length (ops block l d) ≡ one (not (bit 2 (action block))) + 1 + tally block (0 ∷ 1 ∷ 2 ∷ 3 ∷ 4 ∷ 5 ∷ 6 ∷ 7 ∷ []))
+    × (length (ops block l d) ≤ 10))
+    × (Writing block
+    → (length (ops block l d) ≡ one (not (bit 2 (action block))) + 2 + tally block (0 ∷ 1 ∷ 2 ∷ 3 ∷ 4 ∷ 5 ∷ 7 ∷ []) + one (ltb 0 l))
+    × (length (ops block l d) ≤ 11))

@@ -1,0 +1,37 @@
+-- Demand 1: what a refusal is.
+use mathlib.Core.Path.{_≡_}
+use mathlib.Core.Bool.{Bool, true, false, cond, _||_}
+use mathlib.Core.List.{List, [], _∷_}
+use Prim.Native.Nat.{ℕ}
+use lib.Dec.{eqb}
+use Rattle.rules.specs.Held.{World, world}
+use Rattle.rules.specs.Stopping.{stop}
+use Rattle.rules.specs.Step.{Event, BusReset, Control, Packet, Report, StatusRequest, Machine}
+
+-- the numbers of a damaged command packet: "answer 13 or 14"
+abbrev pub damages : ℕ → Bool
+damages n = eqb n 13 || eqb n 14
+
+-- "A refused call changes no memory byte, configuration byte or lent buffer; only a damaged command packet changes the bridge's state, by
+-- stopping it."
+abbrev pub Refusals : Machine → Type 0
+Refusals s =
+    (w : World) (e : Event) → (s w e .answer ≡ 0 → ⊥)
+    → (s w e .reply ≡ [])
+    × (s w e .operations ≡ [])
+    × (s w e .next ≡ world (cond (damages (s w e .answer)) (stop (w .bridge)) (w .bridge)) (w .memory))
+
+-- "Each refusal has its number in document 01."
+abbrev pub numbers : Event → List ℕ
+numbers BusReset = 0 ∷ []
+numbers (Control setup host room) = 0 ∷ 1 ∷ 4 ∷ 5 ∷ 6 ∷ 7 ∷ 8 ∷ 9 ∷ 10 ∷ 2 ∷ 3 ∷ []
+numbers (Packet p room) = 0 ∷ 4 ∷ 11 ∷ 16 ∷ 13 ∷ 14 ∷ 15 ∷ []
+numbers (Report direction failed amount) = 0 ∷ 4 ∷ 16 ∷ 17 ∷ []
+numbers (StatusRequest room) = 0 ∷ 4 ∷ 11 ∷ 16 ∷ 3 ∷ []
+
+abbrev pub among : ℕ → List ℕ → Bool
+among n [] = false
+among n (k ∷ ks) = eqb n k || among n ks
+
+abbrev pub Numbered : Machine → Type 0
+Numbered s = (w : World) (e : Event) → among (s w e .answer) (numbers e) ≡ true

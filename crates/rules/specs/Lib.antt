@@ -1,0 +1,11 @@
+pub mod Words
+pub mod Held
+pub mod Requests
+pub mod Answers
+pub mod Packets
+pub mod Operations
+pub mod Reports
+pub mod Stopping
+pub mod Step
+pub mod Demands
+pub mod Promise

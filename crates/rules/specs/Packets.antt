@@ -1,0 +1,80 @@
+-- Packets: the layout of command and status packets, validity, meaning, and when a block is recognised.
+use Prim.Native.Nat.{ℕ, _+_}
+use mathlib.Core.Bool.{Bool, true, false, cond, not, _&&_, _||_}
+use mathlib.Core.List.{List, [], _∷_, _++_}
+use lib.ListN.{length, take, drop}
+use lib.Dec.{eqb, leb, ltb}
+use Rattle.rules.specs.declared.Bridge.{Bridge}
+use Rattle.rules.specs.declared.CommandPacket.{CommandPacket}
+use Rattle.rules.specs.declared.Direction.{Direction}
+use Rattle.rules.specs.declared.Direction.the-variants.{None, In, Out}
+use Rattle.rules.specs.declared.Layout.{Layout}
+use Rattle.rules.specs.declared.Phase.the-variants.{Busy, StatusWaiting}
+use Rattle.rules.specs.declared.Status.{Status}
+use Rattle.rules.specs.declared.Status.the-variants.{Passed, Failed, PhaseError}
+use Rattle.rules.specs.Words.{byte, long, bytes4, bit}
+use Rattle.rules.specs.Held.{inPhase, halting}
+
+-- "A command packet is 31 bytes: 55 53 42 43, .." "A status packet is 13 bytes: 55 53 42 53, .."
+abbrev pub commandLayout : Layout
+commandLayout = record { length = 31; signature = long 0 (0x55 ∷ 0x53 ∷ 0x42 ∷ 0x43 ∷ []) }
+
+abbrev pub statusLayout : Layout
+statusLayout = record { length = 13; signature = long 0 (0x55 ∷ 0x53 ∷ 0x42 ∷ 0x53 ∷ []) }
+
+-- "tag (4), length L (4), flags, LUN, block length, block (16); numbers low byte first"
+abbrev pub commandOf : List ℕ → CommandPacket
+commandOf p = record { tag = long 4 p; length = long 8 p; flags = byte 12 p; lun = byte 13 p; «block_length» = byte 14 p }
+
+-- "The block is the part that starts at byte 15"
+abbrev pub blockOf : List ℕ → List ℕ
+blockOf p = drop 15 p
+
+-- "Valid: 31 bytes and that signature."
+unfoldable pub valid : List ℕ → Bool
+valid p = eqb (length p) (commandLayout .length) && eqb (long 0 p) (commandLayout .signature)
+
+-- "Meaningful: flags 0x00 or 0x80, LUN byte 0, block length 1 to 16."
+unfoldable pub meaningful : CommandPacket → Bool
+meaningful c = (eqb (c .flags) 0x00 || eqb (c .flags) 0x80) && eqb (c .lun) 0 && leb 1 (c .«block_length») && leb (c .«block_length») 16
+
+-- "Flags 0x80 means in; direction is ignored if L = 0."
+abbrev pub directionOf : CommandPacket → Direction
+directionOf c = cond (eqb (c .length) 0) None (cond (eqb (c .flags) 0x80) In Out)
+
+abbrev pub inward : Direction → Bool
+inward None = false
+inward In = true
+inward Out = false
+
+-- "if action bit 0 is set, action bits 3 and 4 are clear, L = 8 and direction in"
+abbrev pub readable : ℕ → ℕ → Direction → Bool
+readable action l d = not (bit 3 action) && not (bit 4 action) && eqb l 8 && inward d
+
+-- "The block is recognised when its length is 16, byte 0 equals configuration byte 0x04, byte 1 is 0x24, bytes 13 to 15 are 0, and .."
+unfoldable pub recognised : ℕ → List ℕ → ℕ → ℕ → Direction → Bool
+recognised signature block size l d =
+    eqb size 16
+    && eqb (byte 0 block) signature
+    && eqb (byte 1 block) 0x24
+    && eqb (byte 13 block) 0 && eqb (byte 14 block) 0 && eqb (byte 15 block) 0
+    && (not (bit 0 (byte 2 block)) || readable (byte 2 block) l d)
+
+abbrev pub recognises : Bridge → List ℕ → Bool
+recognises b p =
+    recognised (byte 0x04 (b .bytes)) (blockOf p) (commandOf p .«block_length») (commandOf p .length) (directionOf (commandOf p))
+
+-- "The phase becomes status waiting with status 1 and residue L, and the pipe of the direction is halted if L > 0."
+-- "A recognised block with room enough makes the phase busy."
+abbrev pub commandTaken : Bool → CommandPacket → Bridge → Bridge
+commandTaken true c b = inPhase (Busy (c .tag) (c .length) (directionOf c)) b
+commandTaken false c b = halting (directionOf c) (inPhase (StatusWaiting (c .tag) (c .length) Failed) b)
+
+-- "55 53 42 53, tag, residue (4), status"
+abbrev pub statusNumber : Status → ℕ
+statusNumber Passed = 0
+statusNumber Failed = 1
+statusNumber PhaseError = 2
+
+abbrev pub statusPacket : ℕ → ℕ → Status → List ℕ
+statusPacket tag residue status = bytes4 (statusLayout .signature) ++ bytes4 tag ++ bytes4 residue ++ statusNumber status ∷ []

@@ -1,0 +1,166 @@
+-- Control requests: the fields of a setup, the table, places and addresses, and what each request does.
+use Prim.Native.Nat.{ℕ, _+_, _-_, _/_, _%_}
+use mathlib.Core.Bool.{Bool, true, false, cond, not, _&&_, _||_}
+use mathlib.Core.List.{List, [], _∷_}
+use lib.ListN.{take, drop, replicate}
+use lib.Seq.{paste}
+use lib.Dec.{eqb, leb, ltb}
+use Rattle.rules.specs.declared.Bridge.{Bridge}
+use Rattle.rules.specs.declared.Request.{Request}
+use Rattle.rules.specs.declared.Request.the-variants.{SetConfiguration, GetConfiguration, ClearFeature, GetStatus, GetMaxLun, MassStorageReset, LoadConfigData, ReadConfigData, SoftReset, BogusRead, Unknown}
+use Rattle.rules.specs.declared.Setup.{Setup}
+use Rattle.rules.specs.Words.{byte, word, one}
+use Rattle.rules.specs.Held.{World, configuration, bulkOut, bulkIn, holding, inPhase, fresh}
+use Rattle.rules.specs.Stopping.{clearFeature, massStorageReset, softReset}
+
+-- "Fields are the whole 16-bit numbers, low byte first."
+abbrev pub setupOf : List ℕ → Setup
+setupOf s = record { kind = byte 0 s; code = byte 1 s; value = word 2 s; index = word 4 s; length = word 6 s }
+
+-- ---- the table: type, code, and the tests that wValue, wIndex and wLength must pass
+
+pub record Row : Type 0 where
+  pub names : Request
+  pub kind : ℕ
+  pub code : ℕ
+  pub value : ℕ → Bool
+  pub index : ℕ → Bool
+  pub length : ℕ → Bool
+
+abbrev pub row : Request → ℕ → ℕ → (ℕ → Bool) → (ℕ → Bool) → (ℕ → Bool) → Row
+row r k c v i n = record { names = r; kind = k; code = c; value = v; index = i; length = n }
+
+abbrev pub is : ℕ → ℕ → Bool
+is n x = eqb x n
+
+abbrev pub or : ℕ → ℕ → ℕ → Bool
+or m n x = eqb x m || eqb x n
+
+abbrev pub any : ℕ → Bool
+any x = true
+
+abbrev pub table : List Row
+table =
+    row SetConfiguration 0x00 0x09 (or 0 2) (is 0) (is 0) ∷
+    row GetConfiguration 0x80 0x08 (is 0) (is 0) (is 1) ∷
+    row ClearFeature 0x02 0x01 (is 0) (or bulkOut bulkIn) (is 0) ∷
+    row GetStatus 0x82 0x00 (is 0) (or bulkOut bulkIn) (is 2) ∷
+    row GetMaxLun 0xA1 0xFE (is 0) (is 0) (is 1) ∷
+    row MassStorageReset 0x21 0xFF (is 0) (is 0) (is 0) ∷
+    row LoadConfigData 0x40 0x01 any any any ∷
+    row ReadConfigData 0xC0 0x02 any any any ∷
+    row SoftReset 0x40 0x03 (is 0) (is 0) (is 0) ∷
+    row BogusRead 0xC0 0x01 any any any ∷
+    []
+
+abbrev pub fits : Row → Setup → Bool
+fits r s =
+    eqb (s .kind) (r .kind) && eqb (s .code) (r .code) && (r .value) (s .value) && (r .index) (s .index) && (r .length) (s .length)
+
+abbrev pub lookup : List Row → Setup → Request
+lookup [] s = Unknown
+lookup (r ∷ rs) s = cond (fits r s) (r .names) (lookup rs s)
+
+-- the request that a setup makes, Unknown where "the pair, or a field fixed above, isn't in the table"
+unfoldable pub requestOf : Setup → Request
+requestOf s = lookup table s
+
+-- a request's place in the table, to test for one
+abbrev pub rank : Request → ℕ
+rank SetConfiguration = 0
+rank GetConfiguration = 1
+rank ClearFeature = 2
+rank GetStatus = 3
+rank GetMaxLun = 4
+rank MassStorageReset = 5
+rank LoadConfigData = 6
+rank ReadConfigData = 7
+rank SoftReset = 8
+rank BogusRead = 9
+rank Unknown = 10
+
+abbrev pub isA : Request → Request → Bool
+isA q r = eqb (rank r) (rank q)
+
+-- LOAD_CONFIG_DATA and READ_CONFIG_DATA, the two with a place
+abbrev pub hasPlace : Request → Bool
+hasPlace r = isA LoadConfigData r || isA ReadConfigData r
+
+-- ---- "a request whose type field says class or vendor or whose recipient is an endpoint" (USB 2.0, 9.3)
+
+abbrev pub needsConfiguration : ℕ → Bool
+needsConfiguration kind = eqb (kind / 32 % 4) 1 || eqb (kind / 32 % 4) 2 || eqb (kind % 32) 2
+
+-- ---- "Place 0x0000 is the configuration bytes, 0x0002 the memory."
+
+abbrev pub inBytes : ℕ → Bool
+inBytes place = eqb place 0x0000
+
+abbrev pub inMemory : ℕ → Bool
+inMemory place = eqb place 0x0002
+
+-- "Writable configuration addresses: 2 ≤ start ≤ 15 and start + n ≤ 16. Readable: start ≤ 15 and start + n ≤ 16. Memory, read or
+-- written: start < M and start + n ≤ M."
+unfoldable pub address : Bool → ℕ → ℕ → ℕ → ℕ → Bool
+address writes m place start n =
+    cond (inMemory place)
+    (ltb start m && leb (start + n) m)
+    (leb (cond writes 2 0) start && leb start 15 && leb (start + n) 16)
+
+-- "A memory write also starts at a multiple of eight"
+abbrev pub atEight : ℕ → Bool
+atEight start = eqb (start % 8) 0
+
+-- "and its first and last byte lie in the same page: equal quotients by 256". "With n = 0 .. no page is crossed."
+unfoldable pub onePage : ℕ → ℕ → Bool
+onePage start n = eqb n 0 || eqb (start / 256) ((start + n - 1) / 256)
+
+-- ---- data and reply
+
+-- how many bytes the host sends, and how many it is sent: wLength, one way or the other
+abbrev pub sent : Setup → ℕ
+sent s = cond (ltb (s .kind) 0x80) (s .length) 0
+
+abbrev pub returned : Setup → ℕ
+returned s = cond (ltb (s .kind) 0x80) 0 (s .length)
+
+-- ---- done
+
+abbrev pub haltOf : ℕ → Bridge → Bool
+haltOf pipe b = cond (eqb pipe bulkOut) (b .halts .outward) (b .halts .inward)
+
+abbrev pub storeOf : ℕ → World → List ℕ
+storeOf place w = cond (inMemory place) (w .memory) (w .bridge .bytes)
+
+abbrev pub replyTo : Request → Setup → World → List ℕ
+replyTo SetConfiguration s w = []
+replyTo GetConfiguration s w = configuration (w .bridge) ∷ []
+replyTo ClearFeature s w = []
+replyTo GetStatus s w = one (haltOf (s .index) (w .bridge)) ∷ 0 ∷ []
+replyTo GetMaxLun s w = 0 ∷ []
+replyTo MassStorageReset s w = []
+replyTo LoadConfigData s w = []
+replyTo ReadConfigData s w = take (s .length) (drop (s .index) (storeOf (s .value) w))
+replyTo SoftReset s w = []
+replyTo BogusRead s w = replicate (s .length) 0
+replyTo Unknown s w = []
+
+-- the addressed bytes become the host's
+abbrev pub written : Setup → List ℕ → List ℕ → List ℕ
+written s host store = paste store (s .index) host (s .length)
+
+abbrev pub bridgeAfter : Request → Setup → List ℕ → Bridge → Bridge
+bridgeAfter SetConfiguration s host b = fresh (eqb (s .value) 2) b
+bridgeAfter GetConfiguration s host b = b
+bridgeAfter ClearFeature s host b = clearFeature (s .index) b
+bridgeAfter GetStatus s host b = b
+bridgeAfter GetMaxLun s host b = b
+bridgeAfter MassStorageReset s host b = inPhase (massStorageReset (b .phase)) b
+bridgeAfter LoadConfigData s host b = holding (cond (inMemory (s .value)) (b .bytes) (written s host (b .bytes))) b
+bridgeAfter ReadConfigData s host b = b
+bridgeAfter SoftReset s host b = inPhase (softReset (b .phase)) b
+bridgeAfter BogusRead s host b = b
+bridgeAfter Unknown s host b = b
+
+abbrev pub memoryAfter : Request → Setup → List ℕ → List ℕ → List ℕ
+memoryAfter r s host m = cond (isA LoadConfigData r && inMemory (s .value)) (written s host m) m

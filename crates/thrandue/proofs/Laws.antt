@@ -1,0 +1,76 @@
+-- Laws of the image: flags as bytes, its two halves read and written, and that what was written is read back.
+use mathlib.Core.Path.{_≡_, refl, sym, ap, ap₂, _∙_}
+use mathlib.Core.Bool.{Bool, true, false}
+use mathlib.Core.List.{List, [], _∷_, _++_, append-nil}
+use Prim.Native.Nat.{ℕ, zero, suc, _+_, _-_, _*_, _/_, _%_, _^_, _<_, _≤_, min}
+use native.Mathlib.Nat.{div-div-eq-div-mul}
+use native.Mathlib.Omega.{arith}
+use lib.ListN.{length, take, drop, drop-of-length-le}
+use lib.Seq.{paste, take-all, drop-cons}
+use borrow.Author.Tests.{eq-eqb, ne-eqb}
+use mir.Val.{boolByte}
+use Rattle.rules.specs.declared.Bridge.{Bridge}
+use Rattle.rules.specs.declared.Direction.{Direction}
+use Rattle.rules.specs.declared.Direction.the-variants.{None, In, Out}
+use Rattle.rules.specs.declared.Phase.{Phase}
+use Rattle.rules.specs.declared.Phase.the-variants.{Awaiting, Busy, StatusWaiting, Stopped}
+use Rattle.rules.specs.declared.Status.{Status}
+use Rattle.rules.specs.declared.Status.the-variants.{Passed, Failed, PhaseError}
+use Rattle.bridge.specs.declared.Outcome.{Outcome}
+use Rattle.bridge.specs.Outcomes.{Answers}
+use Rattle.rules.specs.Words.{byte, bytes4, one}
+use Rattle.rules.specs.Held.{world}
+use Rattle.rules.specs.Packets.{statusNumber}
+use Rattle.rules.specs.Reports.{directionNumber}
+use Rattle.rules.specs.Step.{Event}
+use Rattle.rules.specs.Promise.{Left, leaves}
+use Rattle.thrandue.specs.declared.image.Coded.{Coded}
+use Rattle.thrandue.specs.Image.{directionFrom, statusFrom, codeOf, phaseFrom, row, encode, decode}
+use Rattle.thrandue.specs.Calls.{called, returns, imageLeft, Told}
+
+pub bool-byte : (b : Bool) → boolByte b ≡ one b
+bool-byte true = refl
+bool-byte false = refl
+
+pub bool-most : (b : Bool) → boolByte b ≤ 1
+bool-most true = omega arith
+bool-most false = omega arith
+
+nothing-left : (l : List ℕ) (n : ℕ) → length l ≤ n → drop n l ≡ []
+nothing-left l n h = drop-of-length-le l h
+
+-- the first sixteen bytes of an image, copied into sixteen
+pub first-half : (room image : List ℕ) → length room ≡ 16 → length image ≡ 32 → paste room 0 image (min (length image) (length room - 0)) ≡ take 16 image
+first-half room image r i =
+    let n : min (length image) (length room - 0) ≡ 16 = omega arith in
+    rw n (ap (λ (l : List ℕ). take 16 image ++ l) (nothing-left room 16 (omega arith)) ∙ append-nil (take 16 image))
+
+-- a whole image, copied over another
+pub whole-image : (image new : List ℕ) → length image ≡ 32 → length new ≡ 32 → paste image 0 new (min (length new) (length image - 0)) ≡ new
+whole-image image new i n =
+    let all : min (length new) (length image - 0) ≡ 32 = omega arith in
+    rw all
+    (ap₂ (λ (x y : List ℕ). x ++ y) (take-all 32 new (omega arith)) (nothing-left image 32 (omega arith)) ∙ append-nil new)
+
+-- the bytes of an image, from the parts that it is made of
+pub image-made : (b : Bridge) {code : Coded} {tag amount : List ℕ} → code ≡ codeOf (b .phase) → tag ≡ bytes4 (code .tag) → amount ≡ bytes4 (code .amount)
+    → row 0 16 (b .bytes) ++ row 0 4 tag ++ row 0 4 amount
+    ++ code .number ∷ code .detail ∷ boolByte (b .configured) ∷ boolByte (b .halts .outward) ∷ boolByte (b .halts .inward) ∷ 0 ∷ 0 ∷ 0 ∷ []
+    ≡ encode b
+image-made b c t a = rw (t, a, c, bool-byte (b .configured), bool-byte (b .halts .outward), bool-byte (b .halts .inward))
+
+-- ---- what a call leaves
+
+-- where the image has another length
+pub no-image : (image : List ℕ) (event : ℕ → Event) (room : List ℕ) → (length image ≡ 32 → ⊥) → Told image event room 255 image room
+no-image image event room h m = rw (ne-eqb (length image) 32 h)
+
+-- where it has its length, from what was loaded, what the event left, and what was written back
+pub image-told : (image : List ℕ) (event : ℕ → Event) (room : List ℕ) (o : Outcome) {b : Bridge} {returned : ℕ} {image' room' : List ℕ}
+    → length image ≡ 32 → b ≡ decode image → Answers b event room o room'
+    → (returned ≡ o .answer + 256 * o .count) × (image' ≡ imageLeft true (o .answer) (o .bridge) image)
+    → Told image event room returned image' room'
+image-told image event room o h e l r m =
+    rw (eq-eqb (length image) 32 h, r .0, r .1)
+    (ap (λ (x : Left). called (returns true (x .answer) (x .count)) (imageLeft true (x .answer) (x .bridge) image) (x .memory) (x .room))
+    (l m ∙ ap (λ (d : Bridge). leaves (world d m) event room) e))

@@ -1,0 +1,59 @@
+-- `thrandue::image::code_of` meets its contract.
+use native.Mathlib.Omega.{arith}
+use borrow.Author.Needs.{needs}
+use Rattle.thrandue.proofs.Laws.{bool-byte, bool-most}
+use Rattle.thrandue.proofs.image.code_of.Statement.{statement}
+use Rattle.thrandue.proofs.image.code_of.Tie as tie
+
+enum-told : tie.Need-enum-told
+enum-told c = search needs
+
+enum-known-p : tie.Need-enum-known-p
+enum-known-p c = search needs
+
+number-requires : tie.Need-number-requires
+number-requires c κs = search needs
+
+enum-known-p-2 : tie.Need-enum-known-p-2
+enum-known-p-2 c = search needs
+
+number-requires-2 : tie.Need-number-requires-2
+number-requires-2 c κs = search needs
+
+enum-known-p-3 : tie.Need-enum-known-p-3
+enum-known-p-3 c = search needs
+
+cast-t12 : tie.Need-cast-t12
+cast-t12 c = search needs
+
+add-t13 : tie.Need-add-t13
+add-t13 c = omega (arith, bool-most (c .before .p3 .given .0 .0))
+
+returns : tie.Need-returns
+returns c = rw (c .enum-told .given .1)
+
+returns-2 : tie.Need-returns-2
+returns-2 c = rw (c .before .before .p .given .1, c .number .ensures)
+
+returns-3 : tie.Need-returns-3
+returns-3 c = rw (c .before .before .p2 .given .1, c .number2 .ensures)
+
+returns-4 : tie.Need-returns-4
+returns-4 c = rw (c .before .p3 .given .1, bool-byte)
+
+pub code-of-spec : {M : Type 1} → statement M
+code-of-spec =
+    tie.close
+    (tie.spec
+    enum-told
+    enum-known-p
+    number-requires
+    enum-known-p-2
+    number-requires-2
+    enum-known-p-3
+    cast-t12
+    add-t13
+    returns
+    returns-2
+    returns-3
+    returns-4)

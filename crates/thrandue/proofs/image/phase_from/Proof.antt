@@ -1,0 +1,28 @@
+-- `thrandue::image::phase_from` meets its contract.
+use borrow.Author.Tests.{ne-eqb}
+use borrow.Author.Needs.{needs}
+use Rattle.thrandue.proofs.image.phase_from.Statement.{statement}
+use Rattle.thrandue.proofs.image.phase_from.Tie as tie
+
+direction-from-requires : tie.Need-direction-from-requires
+direction-from-requires c κs = search needs
+
+status-from-requires : tie.Need-status-from-requires
+status-from-requires c κs = search needs
+
+returns : tie.Need-returns
+returns c = rw (c .match .keys1)
+
+returns-2 : tie.Need-returns-2
+returns-2 c = rw (c .before .match .keys2, c .direction-from .ensures)
+
+returns-3 : tie.Need-returns-3
+returns-3 c = rw (c .before .match .keys3, c .status-from .ensures)
+
+returns-4 : tie.Need-returns-4
+returns-4 c = rw (ne-eqb _ _ (c .match .rest .0 .0 .1), ne-eqb _ _ (c .match .rest .0 .1), ne-eqb _ _ (c .match .rest .1))
+
+pub phase-from-spec : {M : Type 1} → statement M
+phase-from-spec =
+    tie.close
+    (tie.spec direction-from-requires status-from-requires returns returns-2 returns-3 returns-4)

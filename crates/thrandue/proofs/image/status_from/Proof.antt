@@ -1,0 +1,16 @@
+-- `thrandue::image::status_from` meets its contract.
+use borrow.Author.Tests.{ne-eqb}
+use Rattle.thrandue.proofs.image.status_from.Statement.{statement}
+use Rattle.thrandue.proofs.image.status_from.Tie as tie
+
+returns : tie.Need-returns
+returns c = rw (c .match .keys1)
+
+returns-2 : tie.Need-returns-2
+returns-2 c = rw (c .match .keys2)
+
+returns-3 : tie.Need-returns-3
+returns-3 c = rw (ne-eqb _ _ (c .match .rest .0 .1), ne-eqb _ _ (c .match .rest .1))
+
+pub status-from-spec : {M : Type 1} → statement M
+status-from-spec = tie.close (tie.spec returns returns-2 returns-3)

@@ -1,0 +1,102 @@
+/* The bench: a second bridge from power-on, with the memory and the rooms that are lent to it. */
+#include "bench.h"
+
+#include "command.h"
+
+#include <stdlib.h>
+#include <string.h>
+
+enum {
+    SIZE_MOST = 1000000,
+    SETUP_LENGTH = 8,
+    ERASED = 0xFF
+};
+
+static size_t *named_size(struct bench_sizes *sizes, const char *name) {
+    if (strcmp(name, "--memory") == 0)
+        return &sizes->memory;
+    if (strcmp(name, "--reply") == 0)
+        return &sizes->reply;
+    return strcmp(name, "--operations") == 0 ? &sizes->operations : NULL;
+}
+
+struct bench_arguments bench_arguments(char **argv, const char *help) {
+    return (struct bench_arguments){
+        .rest = argv + 1,
+        .help = help,
+        .sizes = {.memory = 2048, .reply = 4096, .operations = 11},
+    };
+}
+
+const char *bench_argument(struct bench_arguments *arguments) {
+    const char *argument;
+    while ((argument = *arguments->rest) != NULL) {
+        arguments->rest++;
+        if (strcmp(argument, "--help") == 0)
+            exit(command_help(arguments->help));
+        size_t *size = named_size(&arguments->sizes, argument);
+        if (size == NULL)
+            return argument;
+        uint64_t number;
+        if (*arguments->rest == NULL || !command_number(*arguments->rest, SIZE_MOST, &number))
+            exit(command_misused("%s takes a number from 0 to %d", argument, SIZE_MOST));
+        *size = (size_t)number;
+        arguments->rest++;
+    }
+    return NULL;
+}
+
+/* Exactly as large as asked, so that the address sanitizer sees a step beyond it. */
+static void *room(size_t bytes) {
+    if (bytes == 0)
+        return NULL;
+    void *lent = malloc(bytes);
+    if (lent == NULL) {
+        command_say("no room for %zu bytes", bytes);
+        exit(EXIT_MISUSED);
+    }
+    memset(lent, ERASED, bytes);
+    return lent;
+}
+
+void bench_open(struct bench *bench, struct bench_sizes sizes) {
+    bench->sizes = sizes;
+    bench->memory = room(sizes.memory);
+    bench->reply = room(sizes.reply);
+    bench->operations = room(sizes.operations * sizeof *bench->operations);
+    bench->payload = room(RECORD_PAYLOAD_MOST);
+    second_power_on(&bench->bridge);
+}
+
+void bench_close(struct bench *bench) {
+    free(bench->memory);
+    free(bench->reply);
+    free(bench->operations);
+    free(bench->payload);
+}
+
+static uint32_t control_event(struct bench *bench, const uint8_t *payload, size_t length) {
+    size_t setup_len = length < SETUP_LENGTH ? length : SETUP_LENGTH;
+    return second_control(&bench->bridge, payload, setup_len, payload + setup_len,
+                          length - setup_len, bench->memory, bench->sizes.memory, bench->reply,
+                          bench->sizes.reply);
+}
+
+uint32_t bench_event(struct bench *bench, const struct record *record) {
+    /* Lent at the end of its room: a read beyond the payload is one beyond the room. */
+    uint8_t *payload = bench->payload + RECORD_PAYLOAD_MOST - record->length;
+    memcpy(payload, record->payload, record->length);
+    switch (record->kind) {
+    case RECORD_BUS_RESET:
+        return second_bus_reset(&bench->bridge);
+    case RECORD_CONTROL:
+        return control_event(bench, payload, record->length);
+    case RECORD_PACKET:
+        return second_packet(&bench->bridge, payload, record->length, bench->operations,
+                             bench->sizes.operations);
+    case RECORD_REPORT:
+        return second_report(&bench->bridge, payload[0], payload[1], record_load(payload + 2, 4));
+    default:
+        return second_status(&bench->bridge, bench->reply, bench->sizes.reply);
+    }
+}

@@ -1,0 +1,52 @@
+/* The bench: a second bridge from power-on, with the memory and the rooms that are lent to it. */
+#ifndef BENCH_H
+#define BENCH_H
+
+#include "record.h"
+#include "second_bridge.h"
+
+#include <stddef.h>
+#include <stdint.h>
+
+struct bench_sizes {
+    size_t memory;
+    size_t reply;
+    size_t operations;
+};
+
+struct bench {
+    struct bench_sizes sizes;
+    struct second_bridge bridge;
+    uint8_t *memory;
+    uint8_t *reply;
+    uint16_t *operations;
+    uint8_t *payload;
+};
+
+/* A command line with options for other sizes than document 01's. */
+struct bench_arguments {
+    char **rest;
+    const char *help;
+    struct bench_sizes sizes;
+};
+
+#define BENCH_OPTIONS_HELP                                                                         \
+    "  --memory N      bytes in the memory part, 0 for none (2048)\n"                              \
+    "  --reply N       bytes of reply room (4096)\n"                                               \
+    "  --operations N  room for operations (11)\n"                                                 \
+    "  --help          this text\n"
+
+struct bench_arguments bench_arguments(char **argv, const char *help);
+
+/* The next argument that is none of these options, NULL at the end; the sizes are those given up to
+ * it. Ends the program after --help and for an option that is not followed by its number. */
+const char *bench_argument(struct bench_arguments *arguments);
+
+/* Ends the program where there is no room. */
+void bench_open(struct bench *bench, struct bench_sizes sizes);
+void bench_close(struct bench *bench);
+
+/* One event and its outcome; reply or operations stand in the bench's rooms. */
+uint32_t bench_event(struct bench *bench, const struct record *record);
+
+#endif

@@ -1,0 +1,312 @@
+/* coverage: counts the answers that sessions meet, against those that document 01 allows. */
+#include "bench.h"
+#include "command.h"
+
+#include <stdio.h>
+#include <string.h>
+
+static const char help[] =
+    "coverage [OPTION..] FILE [[OPTION..] FILE..]\n"
+    "Replays sessions through the second bridge and prints how often each event, the control\n"
+    "requests one by one, met each answer in each phase before it; - where document 01 allows\n"
+    "none. The options hold for the files after them:\n" BENCH_OPTIONS_HELP
+    "Status 0: all is allowed, and met 100 times or more; 1: it is not, an event changed what it\n"
+    "must leave alone, or a session is torn; 2: bad usage, or a file that cannot be read.\n";
+
+enum {
+    PHASES = 5,
+    ANSWERS = UINT8_MAX + 1,
+    SETUP_LENGTH = 8,
+    LEAST = 100
+};
+
+enum event {
+    BUS_RESET,
+    SET_CONFIGURATION,
+    GET_CONFIGURATION,
+    CLEAR_FEATURE,
+    GET_STATUS,
+    GET_MAX_LUN,
+    MASS_STORAGE_RESET,
+    LOAD_CONFIG_DATA,
+    READ_CONFIG_DATA,
+    SOFT_RESET,
+    BOGUS_READ,
+    OTHER_REQUEST,
+    SHORT_SETUP,
+    PACKET,
+    REPORT,
+    STATUS,
+    EVENTS
+};
+
+static const char *const event_names[EVENTS] = {
+    "bus reset",         "Set Configuration", "Get Configuration",  "Clear Feature",
+    "Get Status",        "Get Max LUN",       "Mass Storage Reset", "LOAD_CONFIG_DATA",
+    "READ_CONFIG_DATA",  "SOFT_RESET",        "BOGUS_READ",         "other request",
+    "setup not 8 bytes", "command packet",    "drive report",       "status request",
+};
+
+static const char *const phase_names[PHASES] = {"awaiting", "busy", "waiting", "stopped",
+                                                "after reset"};
+
+/* Phases, as bits. */
+enum {
+    AWAITING = 0x01,
+    BUSY = 0x02,
+    WAITING = 0x04,
+    STOPPED = 0x08,
+    AFTER_RESET = 0x10,
+    ANY = AWAITING | BUSY | WAITING | STOPPED | AFTER_RESET
+};
+
+/* What document 01 allows. Configuration 0 goes with awaiting: all that sets it restores both. A
+ * busy bridge never has bulk out halted, or its packet would have been refused, but may have bulk
+ * in halted: a reset of either kind leaves halts, and a packet is then accepted. */
+static const struct {
+    enum event event;
+    uint8_t answer;
+    uint8_t phases;
+} allowed[] = {
+    {BUS_RESET, 0, ANY},
+    {SET_CONFIGURATION, 0, ANY},
+    {SET_CONFIGURATION, 5, ANY},
+    {SET_CONFIGURATION, 2, ANY},
+    {GET_CONFIGURATION, 0, ANY},
+    {GET_CONFIGURATION, 5, ANY},
+    {GET_CONFIGURATION, 2, ANY},
+    {GET_CONFIGURATION, 3, ANY},
+    {CLEAR_FEATURE, 0, ANY},
+    {CLEAR_FEATURE, 4, AWAITING},
+    {CLEAR_FEATURE, 5, ANY},
+    {CLEAR_FEATURE, 2, ANY},
+    {GET_STATUS, 0, ANY},
+    {GET_STATUS, 4, AWAITING},
+    {GET_STATUS, 5, ANY},
+    {GET_STATUS, 2, ANY},
+    {GET_STATUS, 3, ANY},
+    {GET_MAX_LUN, 0, ANY},
+    {GET_MAX_LUN, 4, AWAITING},
+    {GET_MAX_LUN, 5, ANY},
+    {GET_MAX_LUN, 2, ANY},
+    {GET_MAX_LUN, 3, ANY},
+    {MASS_STORAGE_RESET, 0, ANY},
+    {MASS_STORAGE_RESET, 4, AWAITING},
+    {MASS_STORAGE_RESET, 5, ANY},
+    {MASS_STORAGE_RESET, 2, ANY},
+    {LOAD_CONFIG_DATA, 0, ANY},
+    {LOAD_CONFIG_DATA, 4, AWAITING},
+    {LOAD_CONFIG_DATA, 6, ANY},
+    {LOAD_CONFIG_DATA, 7, ANY},
+    {LOAD_CONFIG_DATA, 8, ANY},
+    {LOAD_CONFIG_DATA, 9, ANY},
+    {LOAD_CONFIG_DATA, 10, ANY},
+    {LOAD_CONFIG_DATA, 2, ANY},
+    {READ_CONFIG_DATA, 0, ANY},
+    {READ_CONFIG_DATA, 4, AWAITING},
+    {READ_CONFIG_DATA, 6, ANY},
+    {READ_CONFIG_DATA, 7, ANY},
+    {READ_CONFIG_DATA, 8, ANY},
+    {READ_CONFIG_DATA, 2, ANY},
+    {READ_CONFIG_DATA, 3, ANY},
+    {SOFT_RESET, 0, ANY},
+    {SOFT_RESET, 4, AWAITING},
+    {SOFT_RESET, 5, ANY},
+    {SOFT_RESET, 2, ANY},
+    {BOGUS_READ, 0, ANY},
+    {BOGUS_READ, 4, AWAITING},
+    {BOGUS_READ, 2, ANY},
+    {BOGUS_READ, 3, ANY},
+    {OTHER_REQUEST, 4, AWAITING},
+    {OTHER_REQUEST, 5, ANY},
+    {SHORT_SETUP, 1, ANY},
+    {PACKET, 0, AWAITING},
+    {PACKET, 4, AWAITING},
+    {PACKET, 11, AWAITING | WAITING | STOPPED | AFTER_RESET},
+    {PACKET, 16, BUSY | WAITING},
+    {PACKET, 13, AWAITING},
+    {PACKET, 14, AWAITING},
+    {PACKET, 15, AWAITING},
+    {REPORT, 0, BUSY},
+    {REPORT, 4, AWAITING},
+    {REPORT, 16, AWAITING | WAITING | STOPPED | AFTER_RESET},
+    {REPORT, 17, BUSY},
+    {STATUS, 0, WAITING},
+    {STATUS, 4, AWAITING},
+    {STATUS, 11, ANY},
+    {STATUS, 16, AWAITING | BUSY},
+    {STATUS, 3, WAITING},
+};
+
+enum {
+    ROWS = sizeof allowed / sizeof *allowed
+};
+
+struct coverage {
+    struct bench bench;
+    struct bench before;
+    unsigned long counts[EVENTS][ANSWERS][PHASES];
+    unsigned long faults;
+};
+
+static enum event request_of(const struct record *record) {
+    static const uint8_t pairs[][2] = {{0x00, 0x09}, {0x80, 0x08}, {0x02, 0x01}, {0x82, 0x00},
+                                       {0xA1, 0xFE}, {0x21, 0xFF}, {0x40, 0x01}, {0xC0, 0x02},
+                                       {0x40, 0x03}, {0xC0, 0x01}};
+    if (record->length < SETUP_LENGTH)
+        return SHORT_SETUP;
+    for (unsigned i = 0; i < sizeof pairs / sizeof *pairs; i++)
+        if (memcmp(pairs[i], record->payload, sizeof pairs[i]) == 0)
+            return (enum event)(SET_CONFIGURATION + i);
+    return OTHER_REQUEST;
+}
+
+static enum event event_of(const struct record *record) {
+    switch (record->kind) {
+    case RECORD_BUS_RESET:
+        return BUS_RESET;
+    case RECORD_CONTROL:
+        return request_of(record);
+    case RECORD_PACKET:
+        return PACKET;
+    case RECORD_REPORT:
+        return REPORT;
+    default:
+        return STATUS;
+    }
+}
+
+static void copy(void *to, const void *from, size_t bytes) {
+    if (bytes != 0)
+        memcpy(to, from, bytes);
+}
+
+static bool same_from(size_t from, const void *one, const void *other, size_t bytes) {
+    return from == bytes ||
+           memcmp((const uint8_t *)one + from, (const uint8_t *)other + from, bytes - from) == 0;
+}
+
+static void remember(struct coverage *coverage) {
+    const struct bench *bench = &coverage->bench;
+    struct bench *before = &coverage->before;
+    copy(&before->bridge, &bench->bridge, sizeof bench->bridge);
+    copy(before->memory, bench->memory, bench->sizes.memory);
+    copy(before->reply, bench->reply, bench->sizes.reply);
+    copy(before->operations, bench->operations, bench->sizes.operations * sizeof(uint16_t));
+}
+
+/* A refusal changes nothing, except that 13 and 14 stop the bridge; 0 leaves the rest of the rooms
+ * as it was, and only a write changes the memory. */
+static bool keeps_the_rest(const struct coverage *coverage, enum event event, uint32_t outcome) {
+    const struct bench *bench = &coverage->bench;
+    const struct bench *before = &coverage->before;
+    uint8_t answer = second_answer(outcome);
+    uint32_t operations = event == PACKET ? second_count(outcome) : 0;
+    uint32_t bytes = second_count(outcome) - operations;
+    if (answer != 0 && second_count(outcome) != 0)
+        return false;
+    if (answer != 0 && answer != 13 && answer != 14 &&
+        !same_from(0, &bench->bridge, &before->bridge, sizeof bench->bridge))
+        return false;
+    if ((event != LOAD_CONFIG_DATA || answer != 0) &&
+        !same_from(0, bench->memory, before->memory, bench->sizes.memory))
+        return false;
+    return same_from(bytes, bench->reply, before->reply, bench->sizes.reply) &&
+           same_from(operations * sizeof(uint16_t), bench->operations, before->operations,
+                     bench->sizes.operations * sizeof(uint16_t));
+}
+
+static void count_event(void *context, const struct record *record) {
+    struct coverage *coverage = context;
+    enum event event = event_of(record);
+    uint8_t phase = second_phase(&coverage->bench.bridge);
+    remember(coverage);
+    uint32_t outcome = bench_event(&coverage->bench, record);
+    uint8_t answer = second_answer(outcome);
+    coverage->counts[event][answer][phase]++;
+    if (keeps_the_rest(coverage, event, outcome))
+        return;
+    coverage->faults++;
+    command_say("%s, answer %u while %s: changed what it must leave alone", event_names[event],
+                (unsigned)answer, phase_names[phase]);
+}
+
+static int count_session(struct coverage *coverage, const char *name, struct bench_sizes sizes) {
+    bench_open(&coverage->bench, sizes);
+    bench_open(&coverage->before, sizes);
+    int status = record_each(name, count_event, coverage);
+    bench_close(&coverage->bench);
+    bench_close(&coverage->before);
+    return status;
+}
+
+static uint8_t allowed_phases(enum event event, uint8_t answer) {
+    for (size_t i = 0; i < ROWS; i++)
+        if (allowed[i].event == event && allowed[i].answer == answer)
+            return allowed[i].phases;
+    return 0;
+}
+
+static void judge(struct coverage *coverage, enum event event, uint8_t answer) {
+    uint8_t phases = allowed_phases(event, answer);
+    for (unsigned phase = 0; phase < PHASES; phase++) {
+        unsigned long count = coverage->counts[event][answer][phase];
+        bool is_allowed = phases >> phase & 1;
+        if (is_allowed ? count >= LEAST : count == 0)
+            continue;
+        coverage->faults++;
+        command_say("%s, answer %u while %s: met %lu times, %s", event_names[event],
+                    (unsigned)answer, phase_names[phase], count,
+                    is_allowed ? "too seldom" : "and document 01 does not allow it");
+    }
+}
+
+static void print_row(const struct coverage *coverage, enum event event, uint8_t answer,
+                      uint8_t phases) {
+    printf("%-18s %6u", event_names[event], (unsigned)answer);
+    for (unsigned phase = 0; phase < PHASES; phase++) {
+        unsigned long count = coverage->counts[event][answer][phase];
+        if (count == 0 && !(phases >> phase & 1))
+            printf(" %11s", "-");
+        else
+            printf(" %11lu", count);
+    }
+    putchar('\n');
+}
+
+static void print_table(const struct coverage *coverage) {
+    printf("%-18s %6s", "event", "answer");
+    for (unsigned phase = 0; phase < PHASES; phase++)
+        printf(" %11s", phase_names[phase]);
+    putchar('\n');
+    for (size_t i = 0; i < ROWS; i++)
+        print_row(coverage, allowed[i].event, allowed[i].answer, allowed[i].phases);
+}
+
+static int conclude(struct coverage *coverage) {
+    print_table(coverage);
+    for (unsigned event = 0; event < EVENTS; event++)
+        for (unsigned answer = 0; answer < ANSWERS; answer++)
+            judge(coverage, (enum event)event, (uint8_t)answer);
+    return command_end(coverage->faults == 0 ? EXIT_FINE : EXIT_REFUSED);
+}
+
+int main(int argc, char **argv) {
+    static struct coverage coverage;
+    struct bench_arguments arguments = bench_arguments(argv, help);
+    const char *argument;
+    bool counted = false;
+    (void)argc;
+    command_begin("coverage");
+    while ((argument = bench_argument(&arguments)) != NULL) {
+        if (command_is_option(argument))
+            return command_misused("there is no option %s", argument);
+        int status = count_session(&coverage, argument, arguments.sizes);
+        if (status != EXIT_FINE)
+            return status;
+        counted = true;
+    }
+    if (!counted)
+        return command_misused("a session is needed");
+    return conclude(&coverage);
+}

@@ -1,0 +1,53 @@
+/* second: replays a session through the second bridge and prints what the bench prints. */
+#include "bench.h"
+#include "command.h"
+
+#include <stdio.h>
+
+static const char help[] =
+    "second [OPTION..] [FILE]\n"
+    "Replays a session of records through the second bridge and prints, for each event, the\n"
+    "answer number and then the reply's bytes or the operations. Without FILE, or for -, it reads\n"
+    "standard input.\n" BENCH_OPTIONS_HELP
+    "Status 0: every event is answered; 1: the session is torn, and the last line says torn;\n"
+    "2: bad usage, or a file that cannot be read or written.\n";
+
+static void answer(void *context, const struct record *record) {
+    struct bench *bench = context;
+    uint32_t outcome = bench_event(bench, record);
+    uint32_t count = second_count(outcome);
+    printf("%u", (unsigned)second_answer(outcome));
+    for (uint32_t i = 0; i < count; i++) {
+        if (record->kind == RECORD_PACKET)
+            printf(" %04X", (unsigned)bench->operations[i]);
+        else
+            printf(" %02X", (unsigned)bench->reply[i]);
+    }
+    putchar('\n');
+}
+
+static int replay(const char *name, struct bench_sizes sizes) {
+    struct bench bench;
+    bench_open(&bench, sizes);
+    int status = record_each(name, answer, &bench);
+    if (status == EXIT_REFUSED)
+        puts("torn");
+    bench_close(&bench);
+    return command_end(status);
+}
+
+int main(int argc, char **argv) {
+    struct bench_arguments arguments = bench_arguments(argv, help);
+    const char *name = NULL;
+    const char *argument;
+    (void)argc;
+    command_begin("second");
+    while ((argument = bench_argument(&arguments)) != NULL) {
+        if (command_is_option(argument))
+            return command_misused("there is no option %s", argument);
+        if (name != NULL)
+            return command_misused("%s is a second file", argument);
+        name = argument;
+    }
+    return replay(name == NULL ? "-" : name, arguments.sizes);
+}

@@ -1,0 +1,86 @@
+/* The second bridge: document 01 read by hand into plain C, the other side of every comparison. */
+#ifndef SECOND_BRIDGE_H
+#define SECOND_BRIDGE_H
+
+#include <stddef.h>
+#include <stdint.h>
+
+/* The answer numbers of document 01. */
+enum {
+    SECOND_DONE = 0,
+    SECOND_SETUP_LENGTH = 1,
+    SECOND_HOST_DATA = 2,
+    SECOND_REPLY_ROOM = 3,
+    SECOND_UNCONFIGURED = 4,
+    SECOND_UNKNOWN_REQUEST = 5,
+    SECOND_UNKNOWN_PLACE = 6,
+    SECOND_NO_MEMORY = 7,
+    SECOND_OUTSIDE = 8,
+    SECOND_UNALIGNED = 9,
+    SECOND_PAGE_CROSSED = 10,
+    SECOND_HALTED = 11,
+    SECOND_PACKET_NOT_VALID = 13,
+    SECOND_PACKET_NOT_MEANINGFUL = 14,
+    SECOND_OPERATION_ROOM = 15,
+    SECOND_WRONG_PHASE = 16,
+    SECOND_REPORT_MALFORMED = 17
+};
+
+/* What second_phase hands out. */
+enum {
+    SECOND_AWAITING = 0,
+    SECOND_BUSY = 1,
+    SECOND_STATUS_WAITING = 2,
+    SECOND_STOPPED = 3,
+    SECOND_STOPPED_RESET = 4
+};
+
+/* What second_halts hands out, a bit each. */
+enum {
+    SECOND_HALT_OUT = 0x01,
+    SECOND_HALT_IN = 0x02
+};
+
+enum {
+    SECOND_CONFIGURATION_BYTES = 16
+};
+
+/* Callers provide the room and leave the fields to the calls below. */
+struct second_bridge {
+    uint32_t tag;      /* busy, status waiting */
+    uint32_t length;   /* busy */
+    uint32_t residue;  /* status waiting */
+    uint8_t direction; /* busy, as reports number it */
+    uint8_t status;    /* status waiting */
+    uint8_t phase;
+    uint8_t halts;
+    uint8_t configuration;
+    uint8_t bytes[SECOND_CONFIGURATION_BYTES];
+};
+
+/* Every event's outcome: the answer in the low byte, above it the count of reply bytes or
+ * operations handed out. A slice of length 0 may be NULL. */
+static inline uint8_t second_answer(uint32_t outcome) {
+    return (uint8_t)outcome;
+}
+
+static inline uint32_t second_count(uint32_t outcome) {
+    return outcome >> 8;
+}
+
+uint32_t second_power_on(struct second_bridge *bridge);
+uint32_t second_bus_reset(struct second_bridge *bridge);
+uint32_t second_control(struct second_bridge *bridge, const uint8_t *setup, size_t setup_len,
+                        const uint8_t *host, size_t host_len, uint8_t *memory, size_t memory_len,
+                        uint8_t *reply, size_t reply_len);
+uint32_t second_packet(struct second_bridge *bridge, const uint8_t *packet, size_t packet_len,
+                       uint16_t *operations, size_t operations_len);
+uint32_t second_report(struct second_bridge *bridge, uint8_t direction, uint8_t failed,
+                       uint32_t amount);
+uint32_t second_status(struct second_bridge *bridge, uint8_t *reply, size_t reply_len);
+
+uint8_t second_phase(const struct second_bridge *bridge);
+uint8_t second_configuration(const struct second_bridge *bridge);
+uint8_t second_halts(const struct second_bridge *bridge);
+
+#endif
