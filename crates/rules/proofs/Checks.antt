@@ -1,7 +1,7 @@
 -- Laws of the two tables that every event is read by: an ordered list of checks, and the request table.
 use mathlib.Core.Path.{_≡_, refl}
 use mathlib.Core.Bool.{Bool, true, false, cond, not, _&&_, _||_, false≢true, and-eq-true-iff}
-use mathlib.Core.List.{List, [], _∷_}
+use mathlib.Core.List.{List, [], _∷_, _++_}
 use Prim.Native.Nat.{ℕ}
 use lib.Dec.{eqb, ltb}
 use lib.ListN.{length}
@@ -50,6 +50,18 @@ passed (c ∷ cs) n h = go (c .applies) refl (eqb (c .number) 0) refl n h (passe
     go true e false z n h ih = absurd (eqb-false _ 0 z h)
     go false e true z n h ih = absurd (false≢true n)
     go false e false z n h ih = (e, ih n h)
+
+-- checks in two parts: where none of the first applies, the second decides
+pub first-append : (cs ds : List Check) → numbered cs ≡ true → first (cs ++ ds) ≡ cond (eqb (first cs) 0) (first ds) (first cs)
+first-append [] ds n = refl
+first-append (c ∷ cs) ds n = go (c .applies) (eqb (c .number) 0) refl n (first-append cs ds)
+  where
+    go : (t z : Bool) → eqb (c .number) 0 ≡ z → (not z && numbered cs) ≡ true
+        → (numbered cs ≡ true → first (cs ++ ds) ≡ cond (eqb (first cs) 0) (first ds) (first cs))
+        → cond t (c .number) (first (cs ++ ds)) ≡ cond (eqb (cond t (c .number) (first cs)) 0) (first ds) (cond t (c .number) (first cs))
+    go t true e n ih = absurd (false≢true n)
+    go true false e n ih = rw e
+    go false false e n ih = ih n
 
 -- no control request is answered 13 or 14
 pub request-undamaged : (configured : Bool) (m : ℕ) (setup : List ℕ) (host room : ℕ)

@@ -1,4 +1,5 @@
 pub mod Checks
 pub mod Promises
+pub mod Replies
 pub mod Unique
 pub mod Demands

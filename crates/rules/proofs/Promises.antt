@@ -1,7 +1,7 @@
--- Laws of the promise: what a refusal leaves, and what each event that is done leaves.
-use mathlib.Core.Path.{_≡_, refl, ap}
-use mathlib.Core.Bool.{Bool, true, false, not, _&&_, _||_, true≢false}
-use mathlib.Core.List.{List, [], _∷_}
+-- Laws of the promise: what each event leaves that is refused, and that is done.
+use mathlib.Core.Path.{_≡_, refl}
+use mathlib.Core.Bool.{Bool, true, false, cond, not, _&&_, _||_, true≢false}
+use mathlib.Core.List.{List, []}
 use Prim.Native.Nat.{ℕ, _≤_}
 use lib.ListN.{length}
 use lib.Dec.{eqb, ltb}
@@ -9,11 +9,18 @@ use borrow.Author.Tests.{ltb-false}
 use Rattle.rules.specs.declared.Bridge.{Bridge}
 use Rattle.rules.specs.declared.Direction.{Direction}
 use Rattle.rules.specs.declared.Phase.{Phase}
+use Rattle.rules.specs.declared.Phase.the-variants.{Awaiting, StatusWaiting}
+use Rattle.rules.specs.declared.Request.{Request}
+use Rattle.rules.specs.declared.Setup.{Setup}
+use Rattle.rules.specs.declared.Status.{Status}
 use Rattle.rules.specs.Words.{laid}
-use Rattle.rules.specs.Held.{World, world, fresh}
+use Rattle.rules.specs.Held.{World, world, sizeOf, inPhase, fresh}
+use Rattle.rules.specs.Requests.{setupOf, requestOf, replyTo, bridgeAfter, memoryAfter}
+use Rattle.rules.specs.Packets.{commandOf, recognises, commandTaken, statusPacket}
 use Rattle.rules.specs.Reports.{directionNumber, mismatch, reportTaken}
-use Rattle.rules.specs.Answers.{reportAnswer}
-use Rattle.rules.specs.Step.{Event, BusReset, Control, Packet, Report, StatusRequest, Outcome, answer, done, damaged, step}
+use Rattle.rules.specs.Stopping.{stop}
+use Rattle.rules.specs.Answers.{requestAnswer, packetAnswer, reportAnswer, statusAnswer}
+use Rattle.rules.specs.Step.{Event, BusReset, Control, Packet, Report, StatusRequest, Outcome, operationsFor, answer, done, damaged, step}
 use Rattle.rules.specs.Promise.{left, handedOut, leaves, Told}
 
 nothing : (e : Event) (o : Outcome) → o .reply ≡ [] → o .operations ≡ [] → handedOut e o ≡ []
@@ -23,28 +30,66 @@ nothing (Packet bytes room) o r p = p
 nothing (Report direction failed amount) o r p = r
 nothing (StatusRequest room) o r p = r
 
+-- the bridge after a refusal: "13 and 14 stop the bridge"
+abbrev pub refused : ℕ → Bridge → Bridge
+refused n b = cond (damaged n) (stop b) b
+
 -- "Every number but 0 returns no reply and no operations and changes nothing, except that 13 and 14 stop the bridge."
-pub refusal : (w : World) (event : ℕ → Event) (room : List ℕ) (n : ℕ) → answer w (event (length room)) ≡ n → done n ≡ false → damaged n ≡ false
-    → left n 0 (w .bridge) (w .memory) room ≡ leaves w event room
+refusal : (w : World) (event : ℕ → Event) (room : List ℕ) (n : ℕ) → answer w (event (length room)) ≡ n → done n ≡ false
+    → left n 0 (refused n (w .bridge)) (w .memory) room ≡ leaves w event room
 unfolding step
-refusal w event room n a d g =
+refusal w event room n a d =
     let e : Event = event (length room) in
     let z : handedOut e (step w e) ≡ [] = nothing e (step w e) (rw (a, d)) (rw (a, d)) in
-    rw (z, a, d, g)
+    rw (z, a, d)
 
 pub reset-done : (b : Bridge) → Told b (λ n. BusReset) [] 0 0 (fresh false b) []
 unfolding step
 reset-done b m = refl
 
+module _ (w : World) (setup host room : List ℕ) where
+  abbrev controlAnswer : ℕ
+  controlAnswer = requestAnswer (w .bridge .configured) (sizeOf (w .memory)) setup (length host) (length room)
+
+  pub control-refused : (n : ℕ) → controlAnswer ≡ n → done n ≡ false → left n 0 (refused n (w .bridge)) (w .memory) room ≡ leaves w (Control setup host) room
+  control-refused n a d = refusal w (Control setup host) room n a d
+
+  pub control-done : (s : Setup) (r : Request) → s ≡ setupOf setup → r ≡ requestOf s → controlAnswer ≡ 0
+      → left 0 (length (replyTo r s w)) (bridgeAfter r s host (w .bridge)) (memoryAfter r s host (w .memory)) (laid (replyTo r s w) room)
+      ≡ leaves w (Control setup host) room
+  unfolding step
+  control-done s r h k a = rw (k, h, a)
+
+module _ (b : Bridge) (p room : List ℕ) where
+  abbrev needed : ℕ
+  needed = length (operationsFor b p)
+
+  pub packet-refused : (n : ℕ) → packetAnswer b p needed (length room) ≡ n → done n ≡ false → Told b (Packet p) room n 0 (refused n b) room
+  packet-refused n a d m = refusal (world b m) (Packet p) room n a d
+
+  pub packet-done : packetAnswer b p needed (length room) ≡ 0
+      → Told b (Packet p) room 0 needed (commandTaken (recognises b p) (commandOf p) b) (laid (operationsFor b p) room)
+  unfolding step
+  packet-done a m = rw a
+
 module _ (b : Bridge) (direction failed amount : ℕ) where
-  pub report-refused : (n : ℕ) → reportAnswer b direction failed amount ≡ n → done n ≡ false → damaged n ≡ false
-      → Told b (λ n. Report direction failed amount) [] n 0 b []
-  report-refused n a d g m = refusal (world b m) (λ n. Report direction failed amount) [] n a d g
+  pub report-refused : (n : ℕ) → reportAnswer b direction failed amount ≡ n → done n ≡ false
+      → Told b (λ k. Report direction failed amount) [] n 0 (refused n b) []
+  report-refused n a d m = refusal (world b m) (λ k. Report direction failed amount) [] n a d
 
   pub report-done : (p : Phase) → b .phase ≡ p → reportAnswer b direction failed amount ≡ 0
-      → Told b (λ n. Report direction failed amount) [] 0 0 (reportTaken direction failed amount p b) []
+      → Told b (λ k. Report direction failed amount) [] 0 0 (reportTaken direction failed amount p b) []
   unfolding step
   report-done p h a m = rw (a, h)
+
+module _ (b : Bridge) (room : List ℕ) where
+  pub status-refused : (n : ℕ) → statusAnswer b (length room) ≡ n → done n ≡ false → Told b StatusRequest room n 0 (refused n b) room
+  status-refused n a d m = refusal (world b m) StatusRequest room n a d
+
+  pub status-done : (tag residue : ℕ) (status : Status) → b .phase ≡ StatusWaiting tag residue status → statusAnswer b (length room) ≡ 0
+      → Told b StatusRequest room 0 13 (inPhase Awaiting b) (laid (statusPacket tag residue status) room)
+  unfolding step
+  status-done tag residue status h a m = rw (a, h)
 
 -- "Else status is failed and residue is L minus amount": which is then at most L
 pub amount-fits : (l : ℕ) (host : Direction) (direction amount : ℕ) → mismatch l host direction amount ≡ false → amount ≤ l

@@ -1,7 +1,7 @@
 -- Answer numbers: each event's checks, in the paper's order. The first that applies gives its number; where none does, 0.
 use Prim.Native.Nat.{ℕ}
 use mathlib.Core.Bool.{Bool, true, false, cond, not, _&&_, _||_}
-use mathlib.Core.List.{List, [], _∷_}
+use mathlib.Core.List.{List, [], _∷_, _++_}
 use lib.ListN.{length}
 use lib.Dec.{eqb, ltb}
 use Rattle.rules.specs.declared.Bridge.{Bridge}
@@ -14,9 +14,15 @@ use Rattle.rules.specs.Requests.{setupOf, requestOf, isA, hasPlace, need
 use Rattle.rules.specs.Packets.{statusLayout, commandOf, valid, meaningful}
 use Rattle.rules.specs.Reports.{malformed}
 
--- a memory write
-abbrev pub programs : Request → Setup → Bool
-programs r s = isA LoadConfigData r && inMemory (s .value)
+-- the checks of the two requests that have a place, of which one writes
+abbrev pub placeChecks : Bool → Bool → ℕ → ℕ → ℕ → ℕ → List Check
+placeChecks moves writes m place start n =
+    6 if (moves && not (inBytes place || inMemory place)) ∷
+    7 if (moves && inMemory place && eqb m 0) ∷
+    8 if (moves && not (address writes m place start n)) ∷
+    9 if (writes && inMemory place && not (atEight start)) ∷
+    10 if (writes && inMemory place && not (onePage start n)) ∷
+    []
 
 -- "Order for requests: 1, 4, 5, 6, 7, 8, 9, 10, 2, 3."
 abbrev pub requestChecks : Bool → ℕ → ℕ → Setup → Request → ℕ → ℕ → List Check
@@ -24,11 +30,7 @@ requestChecks configured m bytes s r host room =
     1 if not (eqb bytes 8) ∷
     4 if (not configured && needsConfiguration (s .kind)) ∷
     5 if isA Unknown r ∷
-    6 if (hasPlace r && not (inBytes (s .value) || inMemory (s .value))) ∷
-    7 if (hasPlace r && inMemory (s .value) && eqb m 0) ∷
-    8 if (hasPlace r && not (address (isA LoadConfigData r) m (s .value) (s .index) (s .length))) ∷
-    9 if (programs r s && not (atEight (s .index))) ∷
-    10 if (programs r s && not (onePage (s .index) (s .length))) ∷
+    placeChecks (hasPlace r) (isA LoadConfigData r) m (s .value) (s .index) (s .length) ++
     2 if not (eqb host (sent s)) ∷
     3 if ltb room (returned s) ∷
     []

@@ -74,13 +74,17 @@ transferByte a d = one (inward d) + 2 * bitOf 6 a + 4 * bitOf 4 a + 8 * bitOf 3 
 abbrev pub transfers : List ℕ → ℕ → Direction → List Operation
 transfers block l d = only (ltb 0 l) (Transfer (transferByte (action block) d))
 
--- "poll; writes of selected 0 to 5, rising; select; write 7 if selected; transfer if L > 0; read 7. With action bit 1 set, the select
--- follows the place of write 7 instead."
+-- ".. select; write 7 if selected; .. With action bit 1 set, the select follows the place of write 7 instead."
+abbrev pub commanded : List ℕ → List Operation
+commanded block =
+    cond (bit 1 (action block)) (writes block (7 ∷ []) ++ selects block) (selects block ++ writes block (7 ∷ []))
+
+-- "poll; writes of selected 0 to 5, rising; select; write 7 if selected; transfer if L > 0; read 7."
 abbrev pub writeBlock : List ℕ → ℕ → Direction → List Operation
 writeBlock block l d =
     polls block
     ++ writes block (0 ∷ 1 ∷ 2 ∷ 3 ∷ 4 ∷ 5 ∷ [])
-    ++ cond (bit 1 (action block)) (writes block (7 ∷ []) ++ selects block) (selects block ++ writes block (7 ∷ []))
+    ++ commanded block
     ++ transfers block l d
     ++ Read 7 ∷ []
 

@@ -1,14 +1,14 @@
 -- Demand 2, requests, proved.
-use mathlib.Core.Path.{_≡_, refl, sym, ap, _∙_}
+use mathlib.Core.Path.{_≡_, refl, ap, _∙_}
 use mathlib.Core.Logic.{_⊎_, inl, inr}
 use mathlib.Core.Bool.{Bool, true, false, cond, not, _&&_, _||_, true≢false, false≢true, and-eq-true-iff, or-true}
-use mathlib.Core.List.{List, [], _∷_, _++_}
+use mathlib.Core.List.{List, _++_}
 use Prim.Native.Nat.{ℕ, _+_, _-_, _*_, _/_, _%_, _<_, _≤_}
 use native.Mathlib.Omega.{arith}
 use lib.ListN.{length, take, drop, length-drop, List·getD-append}
 use lib.Seq.{paste, length-paste, length-paste-head, length-take-le, getD-take, getD-drop, getD-append-add}
 use lib.Dec.{eqb, leb, ltb}
-use borrow.Author.Tests.{eq-eqb, eqb-true, ltb-true, ltb-false, leb-true, leb-false, not-true, not-false}
+use borrow.Author.Tests.{eq-eqb, eqb-true, ltb-true, ltb-false, leb-true, leb-false, not-true}
 use Rattle.rules.specs.declared.Bridge.{Bridge}
 use Rattle.rules.specs.declared.CommandPacket.{CommandPacket}
 use Rattle.rules.specs.declared.Direction.{Direction}
@@ -21,12 +21,13 @@ use Rattle.rules.specs.declared.Setup.{Setup}
 use Rattle.rules.specs.declared.Status.the-variants.{Failed}
 use Rattle.rules.specs.Words.{byte, word}
 use Rattle.rules.specs.Held.{World, sizeOf, inPhase, halting}
-use Rattle.rules.specs.Requests.{setupOf, requestOf, needsConfiguration, inBytes, inMemory, address, isA, bridgeAfter}
+use Rattle.rules.specs.Requests.{setupOf, requestOf, needsConfiguration, inBytes, inMemory, address, isA, storeOf, bridgeAfter}
 use Rattle.rules.specs.Packets.{commandOf, directionOf, recognises, commandTaken}
 use Rattle.rules.specs.Reports.{mismatch, haltedBy, reportTaken}
 use Rattle.rules.specs.Stopping.{stop}
 use Rattle.rules.specs.Answers.{requestAnswer, packetAnswer, reportAnswer, statusAnswer}
-use Rattle.rules.proofs.Checks.{request-has, request-passed, accepted-write}
+use Rattle.rules.proofs.Checks.{request-has, accepted-write}
+use Rattle.rules.proofs.Replies.{read-inside}
 use Rattle.rules.specs.Step.{Event, BusReset, Control, Packet, Report, StatusRequest, answer, bridgeDone, memoryDone, done, damaged, step}
 use Rattle.rules.specs.Demands.Requests.{WholeFields, Unconfigured, Holds, ExactWrites, NoOtherWrites, ExactReads}
 
@@ -190,28 +191,12 @@ is-read : (s : Setup) → s .kind ≡ 0xC0 → s .code ≡ 0x02 → requestOf s 
 unfolding requestOf
 is-read s k c = rw (k, c)
 
--- an address that is right lies in its place
-inside : (m place start n : ℕ) (b memory : List ℕ) → length b ≡ 16 → m ≤ length memory → address false m place start n ≡ true
-    → start + n ≤ length (cond (inMemory place) memory b)
-unfolding address
-inside m place start n b memory sixteen size a = go (inMemory place) a
-  where
-    go : (y : Bool) → cond y (ltb start m && leb (start + n) m) (leb 0 start && leb start 15 && leb (start + n) 16) ≡ true
-        → start + n ≤ length (cond y memory b)
-    go true a = let l : start + n ≤ m = leb-true (start + n) m (and-eq-true-iff (ltb start m) (leb (start + n) m) .0 a .1) in omega arith
-    go false a =
-        let l : start + n ≤ 16 = leb-true (start + n) 16 (and-eq-true-iff (leb 0 start && leb start 15) (leb (start + n) 16) .0 a .1) in
-        omega arith
-
 pub exact-reads : ExactReads step
 unfolding step
 exact-reads w setup host room sixteen kind code a =
     let read : requestOf (setupOf setup) ≡ ReadConfigData = is-read (setupOf setup) kind code in
-    let p = request-passed (w .bridge .configured) (sizeOf (w .memory)) setup (length host) room a in
-    let store : List ℕ = cond (inMemory (word 2 setup)) (w .memory) (w .bridge .bytes) in
-    let fits : word 4 setup + word 6 setup ≤ length store =
-    inside (sizeOf (w .memory)) (word 2 setup) (word 4 setup) (word 6 setup) (w .bridge .bytes) (w .memory) sixteen (omega arith)
-    (not-false (address false (sizeOf (w .memory)) (word 2 setup) (word 4 setup) (word 6 setup)) (rw read at (p .1 .1 .1 .1 .1 .0))) in
+    let store : List ℕ = storeOf (word 2 setup) w in
+    let fits : word 4 setup + word 6 setup ≤ length store = read-inside w setup (length host) room sixteen a read in
     rw (a, read) (
       length-take-le (word 6 setup) (drop (word 4 setup) store) (simp length-drop (omega arith)),
       λ k l. getD-take (word 6 setup) (drop (word 4 setup) store) k 0 l ∙ getD-drop (word 4 setup) store k 0,

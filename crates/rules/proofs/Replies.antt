@@ -1,0 +1,145 @@
+-- An accepted request's reply is wLength bytes, so there is room for it; and a read or a write lies in its place.
+use mathlib.Core.Path.{_≡_, refl}
+use mathlib.Core.Bool.{Bool, true, false, cond, _&&_, true≢false, false≢true, and-eq-true-iff}
+use mathlib.Core.List.{List, [], _∷_}
+use Prim.Native.Nat.{ℕ, _+_, _≤_}
+use native.Mathlib.Omega.{arith}
+use lib.Dec.{eqb, leb, ltb}
+use lib.ListN.{length, drop, length-drop, length-replicate}
+use lib.Seq.{length-take-le}
+use borrow.Author.Tests.{eqb-true, leb-true, ltb-false, not-false}
+use Rattle.rules.specs.declared.Request.{Request}
+use Rattle.rules.specs.declared.Request.the-variants.{SetConfiguration, GetConfiguration, ClearFeature, GetStatus, GetMaxLun, MassStorageReset, LoadConfigData, ReadConfigData, SoftReset, BogusRead, Unknown}
+use Rattle.rules.specs.declared.Setup.{Setup}
+use Rattle.rules.specs.Held.{World, sizeOf}
+use Rattle.rules.specs.Requests.{Row, table, fits, lookup, setupOf, requestOf, isA, inMemory, address, returned, storeOf, replyTo}
+use Rattle.rules.specs.Answers.{requestAnswer}
+use Rattle.rules.proofs.Checks.{request-passed, accepted-write}
+
+-- how many bytes each request replies
+abbrev replies : Request → Setup → ℕ
+replies SetConfiguration s = 0
+replies GetConfiguration s = 1
+replies ClearFeature s = 0
+replies GetStatus s = 2
+replies GetMaxLun s = 1
+replies MassStorageReset s = 0
+replies LoadConfigData s = 0
+replies ReadConfigData s = s .length
+replies SoftReset s = 0
+replies BogusRead s = s .length
+replies Unknown s = 0
+
+-- every row that a setup fits names a request that replies what wLength says
+abbrev Rows : Setup → List Row → Type 0
+Rows s [] = Unit {0}
+Rows s (r ∷ rs) = (s .kind ≡ r .kind → (r .length) (s .length) ≡ true → returned s ≡ replies (r .names) s) × Rows s rs
+
+rows : (s : Setup) → Rows s table
+rows s = (
+  λ k n. rw k,
+  (
+    λ k n. rw k (eqb-true _ _ n),
+    (
+      λ k n. rw k,
+      (
+        λ k n. rw k (eqb-true _ _ n),
+        (
+          λ k n. rw k (eqb-true _ _ n),
+          (
+            λ k n. rw k,
+            (
+              λ k n. rw k,
+              (
+                λ k n. rw k,
+                (
+                  λ k n. rw k,
+                  (
+                    λ k n. rw k,
+                    tt,
+                  ),
+                ),
+              ),
+            ),
+          ),
+        ),
+      ),
+    ),
+  ),
+)
+
+-- the request that a setup makes, Unknown aside, replies what wLength says
+lookup-replies : (rs : List Row) (s : Setup) → Rows s rs → isA Unknown (lookup rs s) ≡ false → returned s ≡ replies (lookup rs s) s
+lookup-replies [] s h u = absurd (true≢false u)
+lookup-replies (r ∷ rs) s h u = go (fits r s) refl u (lookup-replies rs s (h .1))
+  where
+    ends : (a b c d e : Bool) → (a && b && c && d && e) ≡ true → (a ≡ true) × (e ≡ true)
+    ends true b c d e k = (refl, and-eq-true-iff (b && c && d) e .0 k .1)
+    ends false b c d e k = absurd (false≢true k)
+
+    go : (t : Bool) → fits r s ≡ t → isA Unknown (cond t (r .names) (lookup rs s)) ≡ false
+        → (isA Unknown (lookup rs s) ≡ false → returned s ≡ replies (lookup rs s) s) → returned s ≡ replies (cond t (r .names) (lookup rs s)) s
+    go true e u ih =
+        let k = ends (eqb (s .kind) (r .kind)) (eqb (s .code) (r .code)) ((r .value) (s .value)) ((r .index) (s .index)) ((r .length) (s .length)) e in
+        h .0 (eqb-true _ _ (k .0)) (k .1)
+    go false e u ih = ih u
+
+request-replies : (s : Setup) → isA Unknown (requestOf s) ≡ false → returned s ≡ replies (requestOf s) s
+unfolding requestOf
+request-replies s u = lookup-replies table s (rows s) u
+
+-- an address that is right lies in its place
+inside : (writes : Bool) (w : World) (place start n : ℕ) → length (w .bridge .bytes) ≡ 16 → address writes (sizeOf (w .memory)) place start n ≡ true
+    → start + n ≤ length (storeOf place w)
+unfolding address
+inside writes w place start n sixteen a = go (inMemory place) a
+  where
+    go : (y : Bool) → cond y (ltb start (sizeOf (w .memory)) && leb (start + n) (sizeOf (w .memory))) (leb (cond writes 2 0) start && leb start 15 && leb (start + n) 16) ≡ true
+        → start + n ≤ length (cond y (w .memory) (w .bridge .bytes))
+    go true a =
+        let l : start + n ≤ sizeOf (w .memory) = leb-true _ _ (and-eq-true-iff (ltb start (sizeOf (w .memory))) _ .0 a .1) in
+        omega arith
+    go false a =
+        let l : start + n ≤ 16 = leb-true _ _ (and-eq-true-iff (leb (cond writes 2 0) start && leb start 15) _ .0 a .1) in
+        omega arith
+
+-- ---- what an accepted request has
+
+module _ (w : World) (setup : List ℕ) (host room : ℕ) (sixteen : length (w .bridge .bytes) ≡ 16)
+    (accepted : requestAnswer (w .bridge .configured) (sizeOf (w .memory)) setup host room ≡ 0) where
+  abbrev s : Setup
+  s = setupOf setup
+
+  pub write-inside : requestOf s ≡ LoadConfigData → (s .index + s .length ≤ length (storeOf (s .value) w)) × (host ≡ s .length)
+  write-inside e =
+      let p = accepted-write (w .bridge .configured) (sizeOf (w .memory)) setup host room e accepted in
+      (inside true w (s .value) (s .index) (s .length) sixteen (p .1), p .2)
+
+  pub read-inside : requestOf s ≡ ReadConfigData → s .index + s .length ≤ length (storeOf (s .value) w)
+  read-inside e =
+      let p = request-passed (w .bridge .configured) (sizeOf (w .memory)) setup host room accepted in
+      inside false w (s .value) (s .index) (s .length) sixteen
+      (not-false (address false (sizeOf (w .memory)) (s .value) (s .index) (s .length)) (rw e at (p .1 .1 .1 .1 .1 .0)))
+
+  reply-length : (r : Request) → (r ≡ ReadConfigData → s .index + s .length ≤ length (storeOf (s .value) w)) → length (replyTo r s w) ≡ replies r s
+  reply-length SetConfiguration h = refl
+  reply-length GetConfiguration h = refl
+  reply-length ClearFeature h = refl
+  reply-length GetStatus h = refl
+  reply-length GetMaxLun h = refl
+  reply-length MassStorageReset h = refl
+  reply-length LoadConfigData h = refl
+  reply-length ReadConfigData h =
+      let k : s .index + s .length ≤ length (storeOf (s .value) w) = h refl in
+      length-take-le (s .length) (drop (s .index) (storeOf (s .value) w)) (rw length-drop (omega arith))
+  reply-length SoftReset h = refl
+  reply-length BogusRead h = length-replicate (s .length) 0
+  reply-length Unknown h = refl
+
+  pub reply-fits : length (replyTo (requestOf s) s w) ≤ room
+  reply-fits =
+      let p = request-passed (w .bridge .configured) (sizeOf (w .memory)) setup host room accepted in
+      let n : length (replyTo (requestOf s) s w) ≡ replies (requestOf s) s = reply-length (requestOf s) read-inside in
+      let k : returned s ≡ replies (requestOf s) s = request-replies s (p .1 .1 .0) in
+      let l : returned s ≤ room = ltb-false room (returned s) (p .1 .1 .1 .1 .1 .1 .1 .1 .1 .0) in
+      omega arith
