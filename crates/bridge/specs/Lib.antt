@@ -1,1 +1,4 @@
 pub mod Outcomes
+pub mod Parts
+pub mod Rows
+pub mod Serving

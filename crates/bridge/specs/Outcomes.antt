@@ -1,14 +1,41 @@
 -- What an outcome promises of the event that it answers.
+use mathlib.Core.Path.{_≡_}
 use Prim.Native.Nat.{ℕ}
+use mathlib.Core.Bool.{true, false}
 use mathlib.Core.List.{List}
 use Rattle.bridge.specs.declared.Outcome.{Outcome}
 use Rattle.rules.specs.declared.Bridge.{Bridge}
 use Rattle.rules.specs.Step.{Event}
-use Rattle.rules.specs.Promise.{Told}
+use Rattle.rules.specs.declared.Direction.{Direction}
+use Rattle.rules.specs.declared.Phase.the-variants.{Awaiting, Busy, StatusWaiting}
+use Rattle.rules.specs.declared.StatusPacket.{StatusPacket}
+use Rattle.rules.specs.Held.{World}
+use Rattle.rules.specs.Promise.{left, leaves, Told}
 
 abbrev pub outcome : ℕ → ℕ → Bridge → Outcome
 outcome answer count b = record { answer = answer; count = count; bridge = b }
 
+-- the outcome, the memory and what stands in the lent room are the rules'
+abbrev pub Leaves : World → (ℕ → Event) → List ℕ → Outcome → List ℕ → List ℕ → Type 0
+Leaves w event room o memory now = left (o .answer) (o .count) (o .bridge) memory now ≡ leaves w event room
+
 -- an event that is lent no memory: the outcome, and what stands in the lent room, are the rules' with every memory
 abbrev pub Answers : Bridge → (ℕ → Event) → List ℕ → Outcome → List ℕ → Type 0
 Answers b event room o now = Told b event room (o .answer) (o .count) (o .bridge) now
+
+-- a configured bridge that awaits a command on a pipe that is not halted
+pub record Awaits (b : Bridge) : Type 0 where
+  pub configured : b .configured ≡ true
+  pub runs : b .halts .outward ≡ false
+  pub awaits : b .phase ≡ Awaiting
+
+-- a configured bridge that is busy with a command of this tag, length and host direction
+pub record IsBusy (b : Bridge) (tag length : ℕ) (host : Direction) : Type 0 where
+  pub configured : b .configured ≡ true
+  pub busy : b .phase ≡ Busy tag length host
+
+-- a configured bridge in which this status packet waits, on a pipe that is not halted
+pub record Waits (b : Bridge) (p : StatusPacket) : Type 0 where
+  pub configured : b .configured ≡ true
+  pub runs : b .halts .inward ≡ false
+  pub waits : b .phase ≡ StatusWaiting (p .tag) (p .residue) (p .status)

@@ -53,10 +53,9 @@ fn finished(
         b,
     );
     if halts {
-        held::halt(host, waiting)
-    } else {
-        waiting
+        return held::halt(host, waiting);
     }
+    waiting
 }
 
 pub(crate) fn taken(
