@@ -1,4 +1,5 @@
-/* The proved logic of the drive dock's bridge: libthrandue.a. */
+/* thrandue.h: the proved logic of a USB-to-ATA drive dock's bridge, for firmware to link:
+ * libthrandue.a. */
 #ifndef THRANDUE_H
 #define THRANDUE_H
 
@@ -9,12 +10,19 @@
 extern "C" {
 #endif
 
-/* The bridge's state is an image of so many bytes. Any bytes stand for some state; only these calls
- * write it. */
+/* The state is an image of THRANDUE_IMAGE bytes that the caller keeps. thrandue_power_on makes it;
+ * any bytes stand for some state, and only the calls below write it.
+ *
+ * The caller answers for this: pointers are valid for their lengths and do not overlap; the same
+ * memory is lent at every thrandue_control, and nobody else writes it; one call at a time. A slice
+ * of length 0 may be NULL. Any length and content of every slice, and any number, gets an answer.
+ */
 #define THRANDUE_IMAGE 32
 
-/* Every call returns an outcome: the answer number of document 01 in the low byte, above it how
- * many bytes or operations were handed out. */
+/* Every event returns an outcome: the answer in the low byte, and above it how many reply bytes or
+ * operations were handed out. They stand at the front of the lent room, and the rest of the room is
+ * unchanged. Any answer but THRANDUE_DONE hands out nothing and changes no lent byte; only the two
+ * for a damaged packet change the state, by stopping the bridge. */
 static inline uint8_t thrandue_answer(uint32_t outcome) {
     return (uint8_t)(outcome & 0xFF);
 }
@@ -23,18 +31,76 @@ static inline uint32_t thrandue_count(uint32_t outcome) {
     return outcome >> 8;
 }
 
-/* The answer of a call whose image has another length; nothing is changed. */
-#define THRANDUE_NO_IMAGE 255
+/* The answers, and what a port does on the wire. A control request with any answer but DONE is
+ * answered with STALL. For HALTED and the two damaged packets the bulk pipes that thrandue_halts
+ * names answer STALL until they are cleared. For WRONG_PHASE the pipe answers NAK: the packet or
+ * the status request comes again later. */
+enum {
+    THRANDUE_DONE = 0,
+    THRANDUE_SETUP_LENGTH = 1,
+    THRANDUE_HOST_DATA = 2,
+    THRANDUE_REPLY_ROOM = 3,
+    THRANDUE_UNCONFIGURED = 4,
+    THRANDUE_NOT_IN_TABLE = 5,
+    THRANDUE_NO_PLACE = 6,
+    THRANDUE_NONE_FITTED = 7,
+    THRANDUE_OUTSIDE = 8,
+    THRANDUE_NOT_AT_EIGHT = 9,
+    THRANDUE_CROSSES_PAGE = 10,
+    THRANDUE_HALTED = 11,
+    THRANDUE_NOT_VALID = 13,
+    THRANDUE_NOT_MEANINGFUL = 14,
+    THRANDUE_OPERATION_ROOM = 15,
+    THRANDUE_WRONG_PHASE = 16,
+    THRANDUE_MALFORMED = 17,
+    THRANDUE_NO_IMAGE = 255 /* the image has another length; nothing is read or written */
+};
 
-/* The image becomes that of a bridge at power-on. */
+/* The image becomes that of a bridge at power-on, whatever it held. Answers DONE. */
 uint32_t thrandue_power_on(uint8_t *image, size_t image_len);
 
-/* Configuration 0, awaiting a command, no halts; the configuration bytes stay. */
+/* Configuration 0, awaiting a command, no halts; the configuration bytes and the memory stay.
+ * Answers DONE. */
 uint32_t thrandue_bus_reset(uint8_t *image, size_t image_len);
 
-/* The drive is done: direction 0 none, 1 in, 2 out; failed 0 or 1; how many bytes it moved. */
+/* A control request: its setup bytes, the data that the host sent with it, and room for the reply.
+ * A legal write changes exactly its addressed bytes, of the configuration or of the memory. */
+uint32_t thrandue_control(uint8_t *image, size_t image_len, const uint8_t *setup, size_t setup_len,
+                          const uint8_t *host, size_t host_len, uint8_t *memory, size_t memory_len,
+                          uint8_t *reply, size_t reply_len);
+
+/* A command packet on the bulk-out pipe: hands out the register operations of its block, each the
+ * kind in the high byte and the operand in the low byte. Eleven are always enough room. */
+uint32_t thrandue_packet(uint8_t *image, size_t image_len, const uint8_t *packet, size_t packet_len,
+                         uint16_t *operations, size_t operations_len);
+
+/* The drive is done with the operations: direction 0 none, 1 in, 2 out; failed 0 or 1; the amount
+ * of bytes that it moved. */
 uint32_t thrandue_report(uint8_t *image, size_t image_len, uint8_t direction, uint8_t failed,
                          uint32_t amount);
+
+/* A status request on the bulk-in pipe: hands out the status packet of 13 bytes. */
+uint32_t thrandue_status(uint8_t *image, size_t image_len, uint8_t *reply, size_t reply_len);
+
+/* What the image says; THRANDUE_NO_IMAGE for one of another length. The phase: */
+enum {
+    THRANDUE_AWAITING = 0,
+    THRANDUE_BUSY = 1,
+    THRANDUE_STATUS_WAITING = 2,
+    THRANDUE_STOPPED = 3,
+    THRANDUE_STOPPED_RESET = 4 /* stopped, and a Mass Storage Reset has come */
+};
+uint8_t thrandue_phase(const uint8_t *image, size_t image_len);
+
+/* The USB configuration: 0 or 2. */
+uint8_t thrandue_configuration(const uint8_t *image, size_t image_len);
+
+/* The halted bulk pipes, a bit each. */
+enum {
+    THRANDUE_HALT_OUT = 0x01,
+    THRANDUE_HALT_IN = 0x02
+};
+uint8_t thrandue_halts(const uint8_t *image, size_t image_len);
 
 #ifdef __cplusplus
 }

@@ -1,40 +1,24 @@
--- Laws of the image: flags as bytes, its two halves read and written, and that what was written is read back.
-use mathlib.Core.Path.{_≡_, refl, sym, ap, ap₂, _∙_}
-use mathlib.Core.Bool.{Bool, true, false}
+-- Laws of the image: its two halves read and written, and that what was written is read back.
+use mathlib.Core.Path.{_≡_, ap, ap₂, _∙_}
+use mathlib.Core.Bool.{true}
 use mathlib.Core.List.{List, [], _∷_, _++_, append-nil}
-use Prim.Native.Nat.{ℕ, zero, suc, _+_, _-_, _*_, _/_, _%_, _^_, _<_, _≤_, min}
-use native.Mathlib.Nat.{div-div-eq-div-mul}
+use Prim.Native.Nat.{ℕ, _+_, _-_, _*_, _≤_, min}
 use native.Mathlib.Omega.{arith}
 use lib.ListN.{length, take, drop, drop-of-length-le}
-use lib.Seq.{paste, take-all, drop-cons}
+use lib.Seq.{paste, take-all}
 use borrow.Author.Tests.{eq-eqb, ne-eqb}
 use mir.Val.{boolByte}
+use Rattle.lent.proofs.Laws.{bool-byte}
 use Rattle.rules.specs.declared.Bridge.{Bridge}
-use Rattle.rules.specs.declared.Direction.{Direction}
-use Rattle.rules.specs.declared.Direction.the-variants.{None, In, Out}
-use Rattle.rules.specs.declared.Phase.{Phase}
-use Rattle.rules.specs.declared.Phase.the-variants.{Awaiting, Busy, StatusWaiting, Stopped}
-use Rattle.rules.specs.declared.Status.{Status}
-use Rattle.rules.specs.declared.Status.the-variants.{Passed, Failed, PhaseError}
 use Rattle.bridge.specs.declared.Outcome.{Outcome}
-use Rattle.bridge.specs.Outcomes.{Answers}
-use Rattle.rules.specs.Words.{byte, bytes4, one}
+use Rattle.bridge.specs.Outcomes.{Leaves}
+use Rattle.rules.specs.Words.{bytes4}
 use Rattle.rules.specs.Held.{world}
-use Rattle.rules.specs.Packets.{statusNumber}
-use Rattle.rules.specs.Reports.{directionNumber}
 use Rattle.rules.specs.Step.{Event}
 use Rattle.rules.specs.Promise.{Left, leaves}
 use Rattle.thrandue.specs.declared.image.Coded.{Coded}
-use Rattle.thrandue.specs.Image.{directionFrom, statusFrom, codeOf, phaseFrom, row, encode, decode}
-use Rattle.thrandue.specs.Calls.{called, returns, imageLeft, Told}
-
-pub bool-byte : (b : Bool) → boolByte b ≡ one b
-bool-byte true = refl
-bool-byte false = refl
-
-pub bool-most : (b : Bool) → boolByte b ≤ 1
-bool-most true = omega arith
-bool-most false = omega arith
+use Rattle.thrandue.specs.Image.{codeOf, row, encode, decode}
+use Rattle.thrandue.specs.Calls.{called, returns, imageLeft, calls, reads}
 
 nothing-left : (l : List ℕ) (n : ℕ) → length l ≤ n → drop n l ≡ []
 nothing-left l n h = drop-of-length-le l h
@@ -62,15 +46,23 @@ image-made b c t a = rw (t, a, c, bool-byte (b .configured), bool-byte (b .halts
 -- ---- what a call leaves
 
 -- where the image has another length
-pub no-image : (image : List ℕ) (event : ℕ → Event) (room : List ℕ) → (length image ≡ 32 → ⊥) → Told image event room 255 image room
-no-image image event room h m = rw (ne-eqb (length image) 32 h)
+pub no-image : (image memory : List ℕ) (event : ℕ → Event) (room : List ℕ) → (length image ≡ 32 → ⊥) → called 255 image memory room ≡ calls image memory event room
+no-image image memory event room h = rw (ne-eqb (length image) 32 h)
 
 -- where it has its length, from what was loaded, what the event left, and what was written back
-pub image-told : (image : List ℕ) (event : ℕ → Event) (room : List ℕ) (o : Outcome) {b : Bridge} {returned : ℕ} {image' room' : List ℕ}
-    → length image ≡ 32 → b ≡ decode image → Answers b event room o room'
+pub image-left : (image memory : List ℕ) (event : ℕ → Event) (room : List ℕ) (o : Outcome) {b : Bridge} {returned : ℕ} {image' memory' room' : List ℕ}
+    → length image ≡ 32 → b ≡ decode image → Leaves (world b memory) event room o memory' room'
     → (returned ≡ o .answer + 256 * o .count) × (image' ≡ imageLeft true (o .answer) (o .bridge) image)
-    → Told image event room returned image' room'
-image-told image event room o h e l r m =
+    → called returned image' memory' room' ≡ calls image memory event room
+image-left image memory event room o h e l r =
     rw (eq-eqb (length image) 32 h, r .0, r .1)
     (ap (λ (x : Left). called (returns true (x .answer) (x .count)) (imageLeft true (x .answer) (x .bridge) image) (x .memory) (x .room))
-    (l m ∙ ap (λ (d : Bridge). leaves (world d m) event room) e))
+    (l ∙ ap (λ (d : Bridge). leaves (world d memory) event room) e))
+
+-- ---- what a reader reads
+
+pub not-read : (f : Bridge → ℕ) (image : List ℕ) → (length image ≡ 32 → ⊥) → 255 ≡ reads f image
+not-read f image h = rw (ne-eqb (length image) 32 h)
+
+pub is-read : (f : Bridge → ℕ) (image : List ℕ) {b : Bridge} → length image ≡ 32 → b ≡ decode image → f b ≡ reads f image
+is-read f image h e = rw (eq-eqb (length image) 32 h) (ap f e)

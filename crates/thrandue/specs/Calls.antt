@@ -6,10 +6,11 @@ use mathlib.Core.List.{List, []}
 use lib.ListN.{length}
 use lib.Dec.{eqb}
 use Rattle.rules.specs.declared.Bridge.{Bridge}
+use Rattle.rules.specs.Words.{one}
 use Rattle.rules.specs.Held.{world, powerOn}
 use Rattle.rules.specs.Step.{Event, done, damaged}
 use Rattle.rules.specs.Promise.{Left, leaves}
-use Rattle.thrandue.specs.Image.{imageLength, encode, decode}
+use Rattle.thrandue.specs.Image.{imageLength, codeOf, encode, decode}
 
 -- the number that a call returns, the image, the memory, and the lent room
 pub record Called : Type 0 where
@@ -45,3 +46,15 @@ abbrev pub powers : List ℕ → Called
 powers image =
     let fits : Bool = eqb (length image) imageLength in
     called (returns fits 0 0) (imageLeft fits 0 powerOn image) [] []
+
+-- ---- readers of the image: a number of the state that it stands for; 255 where it has another length
+
+abbrev pub reads : (Bridge → ℕ) → List ℕ → ℕ
+reads f image = cond (eqb (length image) imageLength) (f (decode image)) 255
+
+abbrev pub phaseNumber : Bridge → ℕ
+phaseNumber b = codeOf (b .phase) .number
+
+-- 1 for bulk out, and 2 for bulk in
+abbrev pub haltNumber : Bridge → ℕ
+haltNumber b = one (b .halts .outward) + 2 * one (b .halts .inward)

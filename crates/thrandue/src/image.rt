@@ -4,7 +4,7 @@ ghost use mathlib.Core.Bool.{true};
 ghost use Prim.Native.Nat.{_+_, _*_};
 ghost use lib.ListN.{length};
 ghost use Rattle.thrandue.specs.Image.{imageLength, codeOf, directionFrom, statusFrom, phaseFrom, encode, decode};
-ghost use Rattle.thrandue.specs.Calls.{imageLeft};
+ghost use Rattle.thrandue.specs.Calls.{imageLeft, phaseNumber};
 use bridge::Outcome;
 use rules::Bridge;
 use rules::Direction;
@@ -59,6 +59,14 @@ fn code_of(p: Phase) -> Coded
             amount: 0,
         },
     }
+}
+
+pub(crate) fn phase_number(b: Bridge) -> u8
+    ensures { λ r. ⌜ r ≡ phaseNumber b ⌝ }
+{
+    let phase = b.phase;
+    let code = code_of(phase);
+    code.number
 }
 
 fn direction_from(n: u8) -> Direction

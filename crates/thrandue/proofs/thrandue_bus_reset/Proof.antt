@@ -1,13 +1,16 @@
 -- `thrandue::thrandue_bus_reset` meets its contract.
 use mathlib.Core.List.{[]}
 use borrow.Author.Needs.{needs}
-use Rattle.thrandue.proofs.Laws.{no-image, image-told}
 use Rattle.rules.specs.Step.{BusReset}
+use Rattle.thrandue.proofs.Laws.{no-image, image-left}
 use Rattle.thrandue.proofs.thrandue_bus_reset.Statement.{statement}
 use Rattle.thrandue.proofs.thrandue_bus_reset.Tie as tie
 
+cast-result : tie.Need-cast-result
+cast-result c = search needs
+
 returns : tie.Need-returns
-returns c = no-image (c .before .before .args .image .now) (λ n. BusReset) [] (c .if1 .taken)
+returns c = λ m. no-image (c .before .before .args .image .now) m (λ n. BusReset) [] (c .if1 .taken)
 
 load-requires : tie.Need-load-requires
 load-requires c κs = search needs
@@ -22,9 +25,16 @@ same-length : tie.Need-same-length
 same-length c = search needs
 
 returns-2 : tie.Need-returns-2
-returns-2 c = image-told (c .before .before .before .before .before .before .before .before .before .args .image .now) (λ n. BusReset) [] (c .before .before .before .bus-reset .result) (c .before .before .before .before .before .before .before .if1 .left) (c .before .before .before .before .before .load .ensures) (c .before .before .before .bus-reset .ensures) (c .before .before .leave .ensures)
+returns-2 c = λ m. image-left (c .before .before .before .before .before .before .before .before .before .args .image .now) m (λ n. BusReset) [] (c .before .before .before .bus-reset .result) (c .before .before .before .before .before .before .before .if1 .left) (c .before .before .before .before .before .load .ensures) (c .before .before .before .bus-reset .ensures m) (c .before .before .leave .ensures)
 
 pub thrandue-bus-reset-spec : {M : Type 1} → statement M
 thrandue-bus-reset-spec =
     tie.close
-    (tie.spec returns load-requires bus-reset-requires leave-requires same-length returns-2)
+    (tie.spec
+    cast-result
+    returns
+    load-requires
+    bus-reset-requires
+    leave-requires
+    same-length
+    returns-2)

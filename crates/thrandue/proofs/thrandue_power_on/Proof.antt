@@ -5,6 +5,9 @@ use borrow.Author.Needs.{needs}
 use Rattle.thrandue.proofs.thrandue_power_on.Statement.{statement}
 use Rattle.thrandue.proofs.thrandue_power_on.Tie as tie
 
+cast-result : tie.Need-cast-result
+cast-result c = search needs
+
 returns : tie.Need-returns
 returns c = rw (ne-eqb (length (c .before .before .args .image .now)) 32 (c .if1 .taken))
 
@@ -22,4 +25,4 @@ returns-2 c = rw (eq-eqb (length (c .before .before .before .before .before .bef
 
 pub thrandue-power-on-spec : {M : Type 1} → statement M
 thrandue-power-on-spec =
-    tie.close (tie.spec returns power-on-requires store-requires same-length returns-2)
+    tie.close (tie.spec cast-result returns power-on-requires store-requires same-length returns-2)

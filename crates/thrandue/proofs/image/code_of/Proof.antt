@@ -1,7 +1,7 @@
 -- `thrandue::image::code_of` meets its contract.
 use native.Mathlib.Omega.{arith}
 use borrow.Author.Needs.{needs}
-use Rattle.thrandue.proofs.Laws.{bool-byte, bool-most}
+use Rattle.lent.proofs.Laws.{bool-byte, bool-most}
 use Rattle.thrandue.proofs.image.code_of.Statement.{statement}
 use Rattle.thrandue.proofs.image.code_of.Tie as tie
 

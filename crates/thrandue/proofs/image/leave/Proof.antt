@@ -29,7 +29,9 @@ same-length : tie.Need-same-length
 same-length c = search needs
 
 returns-2 : tie.Need-returns-2
-returns-2 c = (refl, rw (not-false (done (c .before .before .before .before .before .before .before .before .args .o .answer) || damaged (c .before .before .before .before .before .before .before .before .args .o .answer)) (c .before .before .before .before .before .if1 .left)) (c .before .before .store .ensures))
+returns-2 c =
+    let at = c .before .before .before .before .before .before .before .before .args in
+    (refl, rw (not-false (done (at .o .answer) || damaged (at .o .answer)) (c .before .before .before .before .before .if1 .left)) (c .before .before .store .ensures))
 
 pub leave-spec : {M : Type 1} → statement M
 leave-spec =

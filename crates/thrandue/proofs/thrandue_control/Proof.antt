@@ -1,0 +1,51 @@
+-- `thrandue::thrandue_control` meets its contract.
+use borrow.Author.Needs.{needs}
+use Rattle.rules.specs.Step.{Control}
+use Rattle.thrandue.proofs.Laws.{no-image, image-left}
+use Rattle.thrandue.proofs.thrandue_control.Statement.{statement}
+use Rattle.thrandue.proofs.thrandue_control.Tie as tie
+
+cast-result : tie.Need-cast-result
+cast-result c = search needs
+
+returns : tie.Need-returns
+returns c =
+    let at = c .before .before .before .before .before .before .args in
+    no-image (at .image .now) (at .memory .now) (Control (at .setup .now) (at .host .now)) (at .reply .now) (c .if1 .taken)
+
+load-requires : tie.Need-load-requires
+load-requires c κs = search needs
+
+control-requires : tie.Need-control-requires
+control-requires c κs = search needs
+
+leave-requires : tie.Need-leave-requires
+leave-requires c κs = search needs
+
+same-length : tie.Need-same-length
+same-length c = search needs
+
+same-length-2 : tie.Need-same-length-2
+same-length-2 c = search needs
+
+same-length-3 : tie.Need-same-length-3
+same-length-3 c = search needs
+
+returns-2 : tie.Need-returns-2
+returns-2 c =
+    let at = c .before .before .before .before .before .before .before .before .before .before .before .before .before .before .before .before .before .before .before .args in
+    image-left (at .image .now) (at .memory .now) (Control (at .setup .now) (at .host .now)) (at .reply .now) (c .before .before .before .before .before .before .before .control .result) (c .before .before .before .before .before .before .before .before .before .before .before .before .before .if1 .left) (c .before .before .before .before .before .before .before .before .before .before .before .load .ensures) (c .before .before .before .before .before .before .before .control .ensures) (c .before .before .leave .ensures)
+
+pub thrandue-control-spec : {M : Type 1} → statement M
+thrandue-control-spec =
+    tie.close
+    (tie.spec
+    cast-result
+    returns
+    load-requires
+    control-requires
+    leave-requires
+    same-length
+    same-length-2
+    same-length-3
+    returns-2)
