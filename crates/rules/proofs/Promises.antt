@@ -15,13 +15,13 @@ use Rattle.rules.specs.declared.Setup.{Setup}
 use Rattle.rules.specs.declared.Status.{Status}
 use Rattle.rules.specs.Words.{laid}
 use Rattle.rules.specs.Held.{World, world, sizeOf, inPhase, fresh}
-use Rattle.rules.specs.Requests.{setupOf, requestOf, replyTo, bridgeAfter, memoryAfter}
+use Rattle.rules.specs.Requests.{setupOf, requestOf}
 use Rattle.rules.specs.Packets.{commandOf, recognises, commandTaken, statusPacket}
 use Rattle.rules.specs.Reports.{directionNumber, mismatch, reportTaken}
 use Rattle.rules.specs.Stopping.{stop}
 use Rattle.rules.specs.Answers.{requestAnswer, packetAnswer, reportAnswer, statusAnswer}
 use Rattle.rules.specs.Step.{Event, BusReset, Control, Packet, Report, StatusRequest, Outcome, operationsFor, answer, done, damaged, step}
-use Rattle.rules.specs.Promise.{left, handedOut, leaves, Told}
+use Rattle.rules.specs.Promise.{left, handedOut, leaves, Told, served}
 
 nothing : (e : Event) (o : Outcome) → o .reply ≡ [] → o .operations ≡ [] → handedOut e o ≡ []
 nothing BusReset o r p = r
@@ -48,15 +48,14 @@ unfolding step
 reset-done b m = refl
 
 module _ (w : World) (setup host room : List ℕ) where
-  abbrev controlAnswer : ℕ
+  abbrev pub controlAnswer : ℕ
   controlAnswer = requestAnswer (w .bridge .configured) (sizeOf (w .memory)) setup (length host) (length room)
 
   pub control-refused : (n : ℕ) → controlAnswer ≡ n → done n ≡ false → left n 0 (refused n (w .bridge)) (w .memory) room ≡ leaves w (Control setup host) room
   control-refused n a d = refusal w (Control setup host) room n a d
 
   pub control-done : (s : Setup) (r : Request) → s ≡ setupOf setup → r ≡ requestOf s → controlAnswer ≡ 0
-      → left 0 (length (replyTo r s w)) (bridgeAfter r s host (w .bridge)) (memoryAfter r s host (w .memory)) (laid (replyTo r s w) room)
-      ≡ leaves w (Control setup host) room
+      → served r s host w room ≡ leaves w (Control setup host) room
   unfolding step
   control-done s r h k a = rw (k, h, a)
 

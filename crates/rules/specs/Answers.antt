@@ -14,14 +14,32 @@ use Rattle.rules.specs.Requests.{setupOf, requestOf, isA, hasPlace, need
 use Rattle.rules.specs.Packets.{statusLayout, commandOf, valid, meaningful}
 use Rattle.rules.specs.Reports.{malformed}
 
--- the checks of the two requests that have a place, of which one writes
+-- those of a memory write
+abbrev pub programChecks : Bool → ℕ → ℕ → List Check
+programChecks programs start n =
+    9 if (programs && not (atEight start)) ∷
+    10 if (programs && not (onePage start n)) ∷
+    []
+
+-- those of the two requests that have a place, of which one writes
 abbrev pub placeChecks : Bool → Bool → ℕ → ℕ → ℕ → ℕ → List Check
 placeChecks moves writes m place start n =
     6 if (moves && not (inBytes place || inMemory place)) ∷
     7 if (moves && inMemory place && eqb m 0) ∷
     8 if (moves && not (address writes m place start n)) ∷
-    9 if (writes && inMemory place && not (atEight start)) ∷
-    10 if (writes && inMemory place && not (onePage start n)) ∷
+    programChecks (writes && inMemory place) start n
+
+-- those that go by the request
+abbrev pub tableChecks : ℕ → Setup → Request → List Check
+tableChecks m s r =
+    5 if isA Unknown r ∷
+    placeChecks (hasPlace r) (isA LoadConfigData r) m (s .value) (s .index) (s .length)
+
+-- those of the data
+abbrev pub dataChecks : Setup → ℕ → ℕ → List Check
+dataChecks s host room =
+    2 if not (eqb host (sent s)) ∷
+    3 if ltb room (returned s) ∷
     []
 
 -- "Order for requests: 1, 4, 5, 6, 7, 8, 9, 10, 2, 3."
@@ -29,11 +47,7 @@ abbrev pub requestChecks : Bool → ℕ → ℕ → Setup → Request → ℕ �
 requestChecks configured m bytes s r host room =
     1 if not (eqb bytes 8) ∷
     4 if (not configured && needsConfiguration (s .kind)) ∷
-    5 if isA Unknown r ∷
-    placeChecks (hasPlace r) (isA LoadConfigData r) m (s .value) (s .index) (s .length) ++
-    2 if not (eqb host (sent s)) ∷
-    3 if ltb room (returned s) ∷
-    []
+    tableChecks m s r ++ dataChecks s host room
 
 -- The answer to a request comes from the configuration, M, the setup, and how many bytes the host sent and there is room for.
 unfoldable pub requestAnswer : Bool → ℕ → List ℕ → ℕ → ℕ → ℕ

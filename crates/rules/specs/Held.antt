@@ -22,8 +22,11 @@ abbrev pub configuration : Bridge → ℕ
 configuration b = cond (b .configured) 2 0
 
 -- "Its size M is its length or 2,048, whichever is smaller. M = 0 means none fitted."
+abbrev pub sizeFor : ℕ → ℕ
+sizeFor n = min n 2048
+
 abbrev pub sizeOf : List ℕ → ℕ
-sizeOf memory = min (length memory) 2048
+sizeOf memory = sizeFor (length memory)
 
 -- "At power-on all are 0, but 0x04 is 0x24, the command signature." "At power-on: configuration 0, awaiting, no halts."
 abbrev pub powerOn : Bridge

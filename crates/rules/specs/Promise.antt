@@ -4,8 +4,11 @@ use mathlib.Core.List.{List}
 use Prim.Native.Nat.{ℕ}
 use lib.ListN.{length}
 use Rattle.rules.specs.declared.Bridge.{Bridge}
+use Rattle.rules.specs.declared.Request.{Request}
+use Rattle.rules.specs.declared.Setup.{Setup}
 use Rattle.rules.specs.Words.{laid}
 use Rattle.rules.specs.Held.{World, world}
+use Rattle.rules.specs.Requests.{replyTo, bridgeAfter, memoryAfter}
 use Rattle.rules.specs.Step.{Event, BusReset, Control, Packet, Report, StatusRequest, Outcome, step}
 
 -- the answer, how many bytes or operations were handed out, the bridge, the memory, and the lent room
@@ -37,3 +40,8 @@ leaves w event room =
 -- a call that is lent no memory promises the same with every memory, and leaves it as it is
 abbrev pub Told : Bridge → (ℕ → Event) → List ℕ → ℕ → ℕ → Bridge → List ℕ → Type 0
 Told b event room answer count next now = (m : List ℕ) → left answer count next m now ≡ leaves (world b m) event room
+
+-- what a control request leaves that no check refuses
+abbrev pub served : Request → Setup → List ℕ → World → List ℕ → Left
+served r s host w room =
+    left 0 (length (replyTo r s w)) (bridgeAfter r s host (w .bridge)) (memoryAfter r s host (w .memory)) (laid (replyTo r s w) room)

@@ -4,6 +4,9 @@ ghost use Rattle.rules.specs.Held.{powerOn};
 ghost use Rattle.rules.specs.Packets.{commandLayout, statusLayout, statusNumber};
 ghost use Rattle.rules.specs.Reports.{directionNumber};
 
+pub mod answers;
+pub mod fields;
+
 // Where data goes, seen from the host. None when L = 0.
 pub enum Direction {
     None,

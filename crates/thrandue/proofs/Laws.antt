@@ -10,8 +10,8 @@ use borrow.Author.Tests.{eq-eqb, ne-eqb}
 use mir.Val.{boolByte}
 use Rattle.lent.proofs.Laws.{bool-byte}
 use Rattle.rules.specs.declared.Bridge.{Bridge}
-use Rattle.bridge.specs.declared.Outcome.{Outcome}
-use Rattle.bridge.specs.Outcomes.{Leaves}
+use Rattle.held.specs.declared.Outcome.{Outcome}
+use Rattle.held.specs.Outcomes.{Leaves}
 use Rattle.rules.specs.Words.{bytes4}
 use Rattle.rules.specs.Held.{world}
 use Rattle.rules.specs.Step.{Event}

@@ -1,4 +1,0 @@
-pub mod Outcomes
-pub mod Parts
-pub mod Rows
-pub mod Serving

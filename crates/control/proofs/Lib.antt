@@ -1,0 +1,3 @@
+mod Granting
+mod Places
+pub mod Unique

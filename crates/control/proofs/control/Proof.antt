@@ -1,0 +1,62 @@
+-- `control::control` meets its contract.
+use mathlib.Core.Path.{_≡_}
+use lib.ListN.{length, length-map}
+use borrow.Author.Needs.{needs}
+use Rattle.rules.specs.Held.{world}
+use Rattle.control.proofs.Granting.{by-judgement}
+use Rattle.control.proofs.control.Statement.{statement}
+use Rattle.control.proofs.control.Tie as tie
+
+judge-requires : tie.Need-judge-requires
+judge-requires c κs = search needs
+
+enum-known-judgement : tie.Need-enum-known-judgement
+enum-known-judgement c = search needs
+
+answered-requires : tie.Need-answered-requires
+answered-requires c κs = search needs
+
+enum-known-judgement-2 : tie.Need-enum-known-judgement-2
+enum-known-judgement-2 c = search needs
+
+serve-requires : tie.Need-serve-requires
+serve-requires c κs =
+    let start = c .before .before .before .before .before .before .before .before .before .before in
+    let at = start .args in
+    let sixteen : length (at .b .bytes) ≡ 16 = simp length-map at (start .good .0 .1 .1 .1 .0 .1 .0 .1) in
+    by-judgement (world (at .b) (at .memory .now)) (at .setup .now) (at .host .now) (at .reply .now) sixteen (c .before .before .before .before .before .judge .ensures) (c .before .before .before .judgement2 .given .1) .0
+
+returns : tie.Need-returns
+returns c =
+    let start = c .before .before .before .before .before .before .before .before .before in
+    let at = start .args in
+    let sixteen : length (at .b .bytes) ≡ 16 = simp length-map at (start .good .0 .1 .1 .1 .0 .1 .0 .1) in
+    rw (c .answered .ensures) (by-judgement (world (at .b) (at .memory .now)) (at .setup .now) (at .host .now) (at .reply .now) sixteen (c .before .before .before .before .judge .ensures) (c .before .before .judgement .given .1))
+
+same-length : tie.Need-same-length
+same-length c = search needs
+
+same-length-2 : tie.Need-same-length-2
+same-length-2 c = search needs
+
+returns-2 : tie.Need-returns-2
+returns-2 c =
+    let start = c .before .before .before .before .before .before .before .before .before .before .before .before .before .before .before in
+    let at = start .args in
+    let sixteen : length (at .b .bytes) ≡ 16 = simp length-map at (start .good .0 .1 .1 .1 .0 .1 .0 .1) in
+    rw (c .before .before .before .before .serve .ensures)
+    (by-judgement (world (at .b) (at .memory .now)) (at .setup .now) (at .host .now) (at .reply .now) sixteen (c .before .before .before .before .before .before .before .before .before .before .judge .ensures) (c .before .before .before .before .before .before .before .before .judgement2 .given .1) .1)
+
+pub control-spec : {M : Type 1} → statement M
+control-spec =
+    tie.close
+    (tie.spec
+    judge-requires
+    enum-known-judgement
+    answered-requires
+    enum-known-judgement-2
+    serve-requires
+    returns
+    same-length
+    same-length-2
+    returns-2)

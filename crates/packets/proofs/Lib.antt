@@ -1,0 +1,2 @@
+mod Commands
+pub mod Unique

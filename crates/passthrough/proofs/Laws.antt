@@ -1,0 +1,35 @@
+-- Laws of the judgement, by what the code finds of a block.
+use mathlib.Core.Path.{_≡_, sym, _∙_}
+use mathlib.Core.Bool.{Bool, true, false, not}
+use mathlib.Core.List.{List}
+use Prim.Native.Nat.{ℕ, _≤_, _<_}
+use lib.ListN.{length}
+use borrow.Author.Tests.{not-true, not-false, ne-eqb, lt-ltb, le-ltb}
+use Rattle.rules.specs.declared.Direction.{Direction}
+use Rattle.rules.specs.Words.{laid}
+use Rattle.rules.specs.Packets.{recognised}
+use Rattle.rules.specs.Operations.{Operation, codes, operationsOf}
+use Rattle.passthrough.proofs.Rows.{length-codes}
+use Rattle.passthrough.specs.declared.Judgement.the-variants.{Unrecognised, NoRoom, Made}
+use Rattle.passthrough.specs.Judgements.{Judged, judgement, judged}
+
+module _ (signature : ℕ) (block : List ℕ) (size l : ℕ) (d : Direction) (row : List ℕ) where
+  abbrev right : Judged
+  right = judged signature block size l d row
+
+  abbrev made : List Operation
+  made = operationsOf block l d
+
+  pub not-sixteen : (length block ≡ 16 → ⊥) → judgement Unrecognised row ≡ right
+  not-sixteen n = rw (ne-eqb (length block) 16 n)
+
+  module _ (s : length block ≡ 16) {r : Bool} (by : r ≡ recognised signature block size l d) where
+    pub not-known : not r ≡ true → judgement Unrecognised row ≡ right
+    not-known k = rw (s, sym by ∙ not-true r k)
+
+    module _ (k : not r ≡ false) {n : ℕ} (counted : n ≡ length made) where
+      pub no-room : length row < n → judgement NoRoom row ≡ right
+      no-room h = rw (s, sym by ∙ not-false r k, length-codes made, lt-ltb (length row) (length made) (rw counted at h))
+
+      pub all-made : n ≤ length row → judgement (Made n) (laid (codes made) row) ≡ right
+      all-made h = rw (counted, s, sym by ∙ not-false r k, length-codes made, le-ltb (length row) (length made) (rw counted at h))

@@ -1,0 +1,4 @@
+mod Counts
+mod Laws
+mod Rows
+pub mod Unique

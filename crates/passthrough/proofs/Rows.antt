@@ -1,0 +1,98 @@
+-- Rows of operations: what stands behind what, and the room that it takes.
+use mathlib.Core.Path.{_≡_, refl, sym, ap, _∙_}
+use mathlib.Core.Bool.{Bool, true, false}
+use mathlib.Core.List.{List, [], _∷_, _++_, append-assoc}
+use Prim.Native.Nat.{ℕ, suc, _+_, _≤_, _<_}
+use native.Mathlib.Nat.{zero-add, add-zero, suc-add, add-suc, le-refl}
+use native.Mathlib.Decide.{le-ind}
+use native.Mathlib.Numerals.{add-one}
+use native.Mathlib.Omega.{arith}
+use lib.ListN.{length, set, length-append}
+use lib.Seq.{sets, sets-eq, length-sets}
+use Rattle.rules.specs.declared.Direction.{Direction}
+use Rattle.rules.specs.Words.{laid}
+use Rattle.rules.specs.Operations.{Operation, Read, code, codes, polls, selects, writes, reads, transfers, writeBlock, readBlock, commanded}
+use Rattle.passthrough.specs.Rows.{Put, Fits, rising, accesses}
+
+pub length-codes : (os : List Operation) → length (codes os) ≡ length os
+length-codes [] = refl
+length-codes (o ∷ os) = ap suc (length-codes os)
+
+-- storing xs and ys is storing xs, and then ys behind it
+sets-codes : (xs ys : List Operation) (l : List ℕ) (i : ℕ)
+    → sets l i (codes (xs ++ ys)) ≡ sets (sets l i (codes xs)) (i + length xs) (codes ys)
+sets-codes [] ys l i = rw add-zero
+sets-codes (x ∷ xs) ys l i = rw (add-suc, ← suc-add) (sets-codes xs ys (set l i (code x)) (suc i))
+
+-- what is put keeps the room's length; what is put behind what is put
+pub put-length : {a b : List ℕ} {i j : ℕ} {os : List Operation} → Put a i os b j → length b ≡ length a
+put-length {a} {i = i} {os = os} p = ap length (p .stored) ∙ length-sets a i (codes os)
+
+module _ {a b : List ℕ} {i j : ℕ} (xs ys : List Operation) (p : Put a i xs b j) where
+  pub put-put : {c : List ℕ} {k : ℕ} → Put b j ys c k → Put a i (xs ++ ys) c k
+  put-put q = record {
+    stored = rw (q .stored, p .stored, p .moved) (sym (sets-codes xs ys a i));
+    moved = rw (q .moved, p .moved, length-append) (omega arith);
+  }
+
+  -- where xs and ys have room, ys has it behind xs
+  pub fits-next : Fits a i (xs ++ ys) → Fits b j ys
+  fits-next h = omega (arith, length-append xs ys, p .moved, put-length p)
+
+-- what is put at the front of the room is laid there
+pub put-laid : {room after : List ℕ} {os : List Operation} {next : ℕ} → Put room 0 os after next → Fits room 0 os
+    → after ≡ laid (codes os) room
+put-laid {room} {os = os} p h =
+    rw (p .stored, sets-eq (codes os) room 0 (rw length-codes h), zero-add)
+
+-- the room that a block takes is what its parts take
+length-parts : (p q r s t : List Operation) → length (p ++ q ++ r ++ s ++ t) ≡ length p + length q + length r + length s + length t
+length-parts p q r s t = simp length-append
+
+pub length-written : (block : List ℕ) (l : ℕ) (d : Direction) → length (writeBlock block l d)
+    ≡ length (polls block) + length (writes block (rising 6)) + length (commanded block) + length (transfers block l d) + 1
+length-written block l d = length-parts (polls block) (writes block (rising 6)) (commanded block) (transfers block l d) (Read 7 ∷ [])
+
+pub length-read : (block : List ℕ) → length (readBlock block) ≡ length (polls block) + 1 + length (reads block (rising 8))
+length-read block = length-append (polls block ++ selects block) (reads block (rising 8)) ∙ rw (length-append (polls block) (selects block))
+
+-- ---- what a list of registers makes, register by register
+
+writes-append : (block xs ys : List ℕ) → writes block (xs ++ ys) ≡ writes block xs ++ writes block ys
+writes-append block [] ys = refl
+writes-append block (x ∷ xs) ys = rw (writes-append block xs ys, append-assoc)
+
+reads-append : (block xs ys : List ℕ) → reads block (xs ++ ys) ≡ reads block xs ++ reads block ys
+reads-append block [] ys = refl
+reads-append block (x ∷ xs) ys = rw (reads-append block xs ys, append-assoc)
+
+accesses-append : (w : Bool) (block xs ys : List ℕ) → accesses w block (xs ++ ys) ≡ accesses w block xs ++ accesses w block ys
+accesses-append true block xs ys = writes-append block xs ys
+accesses-append false block xs ys = reads-append block xs ys
+
+-- no register yet
+pub put-none : (w : Bool) (block l : List ℕ) (i : ℕ) → Put l i (accesses w block (rising 0)) l i
+put-none true block l i = record { stored = refl; moved = sym (add-zero i) }
+put-none false block l i = record { stored = refl; moved = sym (add-zero i) }
+
+-- one register more, and the room for it
+module _ (w : Bool) (block : List ℕ) where
+  abbrev f : List ℕ → List Operation
+  f = accesses w block
+
+  joins : (xs ys : List ℕ) → f (xs ++ ys) ≡ f xs ++ f ys
+  joins = accesses-append w block
+
+  grows : {n : ℕ} (m : ℕ) → n ≤ m → length (f (rising n)) ≤ length (f (rising m))
+  grows {n} m h =
+      le-ind (λ (k : ℕ). length (f (rising n)) ≤ length (f (rising k))) (le-refl _) (λ k (l : n ≤ k) e. more k e) m h
+    where
+      more : (k : ℕ) → length (f (rising n)) ≤ length (f (rising k)) → length (f (rising n)) ≤ length (f (rising (suc k)))
+      more k e = rw (joins, length-append) (omega arith)
+
+  module _ {a b : List ℕ} {i j : ℕ} (n : ℕ) (p : Put a i (f (rising n)) b j) where
+    pub put-next : {c : List ℕ} {k : ℕ} → Put b j (f (n ∷ [])) c k → Put a i (f (rising (n + 1))) c k
+    put-next q = rw (add-one, joins) (put-put _ _ p q)
+
+    pub fits-register : (m : ℕ) → n < m → Fits a i (f (rising m)) → Fits b j (f (n ∷ []))
+    fits-register m h r = fits-next (f (rising n)) (f (n ∷ [])) p (rw (← joins) (omega (arith, grows m h)))

@@ -1,0 +1,17 @@
+-- `passthrough::if_set` meets its contract.
+use mathlib.Core.Path.{sym, _∙_}
+use borrow.Author.Needs.{needs}
+use Rattle.passthrough.proofs.if_set.Statement.{statement}
+use Rattle.passthrough.proofs.if_set.Tie as tie
+
+is-set-requires : tie.Need-is-set-requires
+is-set-requires c κs = search needs
+
+returns : tie.Need-returns
+returns c = rw (sym (c .before .is-set .ensures) ∙ c .if1 .taken)
+
+returns-2 : tie.Need-returns-2
+returns-2 c = rw (sym (c .before .is-set .ensures) ∙ c .if1 .left)
+
+pub if-set-spec : {M : Type 1} → statement M
+if-set-spec = tie.close (tie.spec is-set-requires returns returns-2)

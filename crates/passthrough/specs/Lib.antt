@@ -1,0 +1,2 @@
+pub mod Judgements
+pub mod Rows

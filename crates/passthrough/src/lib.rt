@@ -1,0 +1,297 @@
+// The pass-through block, judged: whether its sixteen bytes are recognised, how many register operations they make, and the operations.
+// `expected` is the packet's length L, `size` its block length.
+ghost use mathlib.Core.Path.{_≡_};
+ghost use mathlib.Core.Bool.{true, cond};
+ghost use mathlib.Core.List.{[], _∷_};
+ghost use Prim.Native.Nat.{_≤_, _<_};
+ghost use lib.ListN.{length};
+ghost use Rattle.passthrough.specs.Rows.{Put, Fits, rising, accesses};
+ghost use Rattle.passthrough.specs.Judgements.{judgement, judged};
+ghost use Rattle.rules.specs.Words.{bit as bitTest, bitOf, laid};
+ghost use Rattle.rules.specs.Packets.{inward, readable, recognised};
+ghost use Rattle.rules.specs.Operations.{Operation, coded, code, codes, only, withBit4, transferByte, polls, selects, writes, reads, commanded, transfers, writeBlock, readBlock, operationsOf};
+use rules::Direction;
+
+// How a block is judged: not recognised; recognised, with less room than its operations need; or made, and how many they are.
+pub enum Judgement {
+    Unrecognised,
+    NoRoom,
+    Made(u16),
+}
+
+// Where the block has its action, its selection of registers 0 to 7, and their contents.
+const ACTION: usize = 2;
+
+const SELECTION: usize = 3;
+
+const CONTENTS: usize = 5;
+
+// The bits of the action, by their names in source 001.
+const TASK_FILE_READ: u8 = 0;
+
+const DEVICE_SELECTION_OVERRIDE: u8 = 1;
+
+const POLL_ALT_STAT_OVERRIDE: u8 = 2;
+
+const P_ERROR_OVERRIDE: u8 = 3;
+
+const D_ERROR_OVERRIDE: u8 = 4;
+
+const DEV_OVERRIDE: u8 = 5;
+
+const UDMA_COMMAND: u8 = 6;
+
+const IDENTIFY_PACKET_DEVICE: u8 = 7;
+
+// The kinds of operation, an operation's high byte. A write of register r is of kind WRITE + r, and so is a read.
+const POLL: u8 = 0x01;
+
+const SELECT: u8 = 0x02;
+
+const TRANSFER: u8 = 0x03;
+
+const WRITE: u8 = 0x10;
+
+const READ: u8 = 0x20;
+
+// The registers that the rules name: 1F6h and 1F7h.
+const DEVICE: u8 = 6;
+
+const COMMAND: u8 = 7;
+
+fn bit(byte: u8, k: u8) -> u8
+    requires { ⌜ k < 8 ⌝ }
+    ensures { λ r. ⌜ r ≡ bitOf k byte ⌝ }
+{
+    (byte >> k) % 2
+}
+
+fn is_set(byte: u8, k: u8) -> bool
+    requires { ⌜ k < 8 ⌝ }
+    ensures { λ r. ⌜ r ≡ bitTest k byte ⌝ }
+{
+    (byte >> k) % 2 == 1
+}
+
+// The value if bit k of the byte is set, else 0.
+fn if_set(byte: u8, k: u8, value: u8) -> u8
+    requires { ⌜ k < 8 ⌝ }
+    ensures { λ r. ⌜ r ≡ cond (bitTest k byte) value 0 ⌝ }
+{
+    if is_set(byte, k) { value } else { 0 }
+}
+
+fn is_in(direction: Direction) -> bool
+    ensures { λ r. ⌜ r ≡ inward direction ⌝ }
+{
+    match direction {
+        Direction::None => false,
+        Direction::In => true,
+        Direction::Out => false,
+    }
+}
+
+// What a block that reads registers must be.
+fn is_readable(action: u8, expected: u32, direction: Direction) -> bool
+    ensures { λ r. ⌜ r ≡ readable action expected direction ⌝ }
+{
+    !is_set(action, P_ERROR_OVERRIDE)
+        & !is_set(action, D_ERROR_OVERRIDE)
+        & (expected == 8)
+        & is_in(direction)
+}
+
+fn is_recognised(block: &[u8], size: u8, expected: u32, direction: Direction, signature: u8) -> bool
+    requires { ⌜ length (now block) ≡ 16 ⌝ }
+    ensures { λ r. ⌜ r ≡ recognised signature (now (block .entry)) size expected direction ⌝ }
+{
+    let action = block[ACTION];
+    (size == 16)
+        & (block[0] == signature)
+        & (block[1] == 0x24)
+        & (block[13] == 0)
+        & (block[14] == 0)
+        & (block[15] == 0)
+        & (!is_set(action, TASK_FILE_READ) | is_readable(action, expected, direction))
+}
+
+fn count(block: &[u8], expected: u32) -> u16
+    requires { ⌜ length (now block) ≡ 16 ⌝ }
+    ensures { λ r. ⌜ ((d : Direction) → r ≡ length (operationsOf (now (block .entry)) expected d)) ⌝ }
+{
+    let action = block[ACTION];
+    let selection = block[SELECTION];
+    // Poll, select, and an operation for each register.
+    let common = 2 - bit(action, POLL_ALT_STAT_OVERRIDE) as u16 + u8::count_ones(selection) as u16;
+    if is_set(action, TASK_FILE_READ) {
+        return common;
+    }
+    // Register 6 is not written: the select stands for it. Then the transfer, and the read of register 7.
+    common - bit(selection, DEVICE) as u16 + (expected > 0) as u16 + 1
+}
+
+// Stores an operation if it is on: high byte kind, low byte the operand. Returns the place of the next.
+fn put(operations: &mut [u16], at: usize, on: bool, kind: u8, operand: u8) -> usize
+    requires { ⌜ (on ≡ true → at < length (now operations)) ⌝ }
+    ensures { λ r. ⌜ ((o : Operation) → code o ≡ coded kind operand → Put (now (operations .entry)) at (only on o) (now (operations .exit)) r) ⌝ }
+{
+    if on {
+        operations[at] = 0x100 * kind as u16 + operand as u16;
+        return at + 1;
+    }
+    at
+}
+
+// `device` is byte 11.
+fn select_byte(action: u8, selection: u8, device: u8) -> u8
+    ensures { λ r. ⌜ r ≡ withBit4 (cond (bitTest 5 action) (bitOf 4 device) 0) (cond (bitTest 6 selection) device 0) ⌝ }
+{
+    let own = if_set(action, DEV_OVERRIDE, bit(device, 4));
+    let byte = if_set(selection, DEVICE, device);
+    byte - 16 * bit(byte, 4) + 16 * own
+}
+
+fn transfer_byte(action: u8, direction: Direction) -> u8
+    ensures { λ r. ⌜ r ≡ transferByte action direction ⌝ }
+{
+    is_in(direction) as u8
+        + 2 * bit(action, UDMA_COMMAND)
+        + 4 * bit(action, D_ERROR_OVERRIDE)
+        + 8 * bit(action, P_ERROR_OVERRIDE)
+        + 16 * bit(action, IDENTIFY_PACKET_DEVICE)
+}
+
+// Poll, unless action bit 2 is set.
+fn put_poll(block: &[u8], operations: &mut [u16]) -> usize
+    requires { ⌜ (length (now block) ≡ 16) × Fits (now operations) 0 (polls (now block)) ⌝ }
+    ensures { λ r. ⌜ Put (now (operations .entry)) 0 (polls (now (block .entry))) (now (operations .exit)) r ⌝ }
+{
+    let on = !is_set(block[ACTION], POLL_ALT_STAT_OVERRIDE);
+    put(operations, 0, on, POLL, 0)
+}
+
+fn put_select(block: &[u8], operations: &mut [u16], at: usize) -> usize
+    requires { ⌜ (length (now block) ≡ 16) × Fits (now operations) at (selects (now block)) ⌝ }
+    ensures { λ r. ⌜ Put (now (operations .entry)) at (selects (now (block .entry))) (now (operations .exit)) r ⌝ }
+{
+    let operand = select_byte(block[ACTION], block[SELECTION], block[11]);
+    put(operations, at, true, SELECT, operand)
+}
+
+// Transfer, if L > 0.
+fn put_transfer(
+    block: &[u8],
+    expected: u32,
+    direction: Direction,
+    operations: &mut [u16],
+    at: usize,
+) -> usize
+    requires { ⌜ (length (now block) ≡ 16) × Fits (now operations) at (transfers (now block) expected direction) ⌝ }
+    ensures { λ r. ⌜ Put (now (operations .entry)) at (transfers (now (block .entry)) expected direction) (now (operations .exit)) r ⌝ }
+{
+    let operand = transfer_byte(block[ACTION], direction);
+    put(operations, at, expected > 0, TRANSFER, operand)
+}
+
+// Write or read of a register, if it is selected.
+fn put_register(
+    block: &[u8],
+    writes: bool,
+    register: u8,
+    operations: &mut [u16],
+    at: usize,
+) -> usize
+    requires { ⌜ (length (now block) ≡ 16) × (register < 8) × Fits (now operations) at (accesses writes (now block) (register ∷ [])) ⌝ }
+    ensures { λ r. ⌜ Put (now (operations .entry)) at (accesses writes (now (block .entry)) (register ∷ [])) (now (operations .exit)) r ⌝ }
+{
+    let on = is_set(block[SELECTION], register);
+    if writes {
+        let content = block[CONTENTS + register as usize];
+        return put(operations, at, on, WRITE + register, content);
+    }
+    put(operations, at, on, READ + register, 0)
+}
+
+// Writes or reads of the selected registers below n, rising.
+fn put_registers(block: &[u8], writes: bool, n: u8, operations: &mut [u16], at: usize) -> usize
+    requires { ⌜ (length (now block) ≡ 16) × (n ≤ 8) × Fits (now operations) at (accesses writes (now block) (rising n)) ⌝ }
+    ensures { λ r. ⌜ Put (now (operations .entry)) at (accesses writes (now (block .entry)) (rising n)) (now (operations .exit)) r ⌝ }
+{
+    let mut next = at;
+    for r in 0..n {
+        next = put_register(block, writes, r, operations, next);
+    }
+    next
+}
+
+// Select, then write 7 if selected. With action bit 1 set, the select follows the place of write 7 instead.
+fn put_command(block: &[u8], operations: &mut [u16], at: usize) -> usize
+    requires { ⌜ (length (now block) ≡ 16) × Fits (now operations) at (commanded (now block)) ⌝ }
+    ensures { λ r. ⌜ Put (now (operations .entry)) at (commanded (now (block .entry))) (now (operations .exit)) r ⌝ }
+{
+    if is_set(block[ACTION], DEVICE_SELECTION_OVERRIDE) {
+        let next = put_register(block, true, COMMAND, operations, at);
+        put_select(block, operations, next)
+    } else {
+        let next = put_select(block, operations, at);
+        put_register(block, true, COMMAND, operations, next)
+    }
+}
+
+// Action bit 0 clear: poll; writes of selected 0 to 5; select and write 7; transfer; read 7.
+fn make_writes(block: &[u8], expected: u32, direction: Direction, operations: &mut [u16])
+    requires { ⌜ (length (now block) ≡ 16) × Fits (now operations) 0 (writeBlock (now block) expected direction) ⌝ }
+    ensures { λ r. ⌜ now (operations .exit) ≡ laid (codes (writeBlock (now (block .entry)) expected direction)) (now (operations .entry)) ⌝ }
+{
+    let at = put_poll(block, operations);
+    let at = put_registers(block, true, 6, operations, at);
+    let at = put_command(block, operations, at);
+    let at = put_transfer(block, expected, direction, operations, at);
+    put(operations, at, true, READ + COMMAND, 0);
+}
+
+// Action bit 0 set: poll, select, reads of selected 0 to 7.
+fn make_reads(block: &[u8], operations: &mut [u16])
+    requires { ⌜ (length (now block) ≡ 16) × Fits (now operations) 0 (readBlock (now block)) ⌝ }
+    ensures { λ r. ⌜ now (operations .exit) ≡ laid (codes (readBlock (now (block .entry)))) (now (operations .entry)) ⌝ }
+{
+    let at = put_poll(block, operations);
+    let at = put_select(block, operations, at);
+    put_registers(block, false, 8, operations, at);
+}
+
+fn make(block: &[u8], expected: u32, direction: Direction, operations: &mut [u16])
+    requires { ⌜ (length (now block) ≡ 16) × (length (operationsOf (now block) expected direction) ≤ length (now operations)) ⌝ }
+    ensures { λ r. ⌜ now (operations .exit) ≡ laid (codes (operationsOf (now (block .entry)) expected direction)) (now (operations .entry)) ⌝ }
+{
+    if is_set(block[ACTION], TASK_FILE_READ) {
+        make_reads(block, operations);
+    } else {
+        make_writes(block, expected, direction, operations);
+    }
+}
+
+// The operations of a recognised block with room enough go into the lent row.
+pub fn judge(
+    block: &[u8],
+    size: u8,
+    expected: u32,
+    direction: Direction,
+    signature: u8,
+    operations: &mut [u16],
+) -> Judgement
+    ensures { λ j. ⌜ judgement j (now (operations .exit)) ≡ judged signature (now (block .entry)) size expected direction (now (operations .entry)) ⌝ }
+{
+    if block.len() != 16 {
+        return Judgement::Unrecognised;
+    }
+    if !is_recognised(block, size, expected, direction, signature) {
+        return Judgement::Unrecognised;
+    }
+    let needed = count(block, expected);
+    if operations.len() < needed as usize {
+        return Judgement::NoRoom;
+    }
+    make(block, expected, direction, operations);
+    Judgement::Made(needed)
+}

@@ -1,0 +1,2 @@
+mod Judging
+pub mod Unique

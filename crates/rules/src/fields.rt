@@ -1,0 +1,8 @@
+// What the fields of a setup may say: the two places, and the two bulk pipes.
+pub const CONFIGURATION_BYTES: u16 = 0x0000;
+
+pub const MEMORY: u16 = 0x0002;
+
+pub const BULK_OUT: u16 = 0x01;
+
+pub const BULK_IN: u16 = 0x82;

@@ -1,0 +1,58 @@
+-- `statuses::handed_out` meets its contract.
+use mathlib.Core.Path.{refl, _∙_}
+use Prim.Native.Nat.{_≤_}
+use native.Mathlib.Omega.{arith}
+use lib.ListN.{length}
+use borrow.Author.Tests.{lt-ltb, le-ltb}
+use borrow.Author.Needs.{needs}
+use Rattle.lent.proofs.Laws.{to-front}
+use Rattle.rules.specs.Answers.{statusAnswer}
+use Rattle.rules.proofs.Promises.{status-refused, status-done}
+use Rattle.statuses.proofs.handed_out.Statement.{statement}
+use Rattle.statuses.proofs.handed_out.Tie as tie
+
+answered-requires : tie.Need-answered-requires
+answered-requires c κs = search needs
+
+returns : tie.Need-returns
+unfolding statusAnswer
+returns c = rw (c .answered .ensures) (status-refused _ _ 3 (rw (c .before .before .before .pre .configured, c .before .before .before .pre .waits, c .before .before .before .pre .runs, lt-ltb _ _ (c .before .if1 .taken))) refl)
+
+packet-of-requires : tie.Need-packet-of-requires
+packet-of-requires c κs = search needs
+
+slice-aggregate-copy : tie.Need-slice-aggregate-copy
+slice-aggregate-copy c = search needs
+
+copy-requires : tie.Need-copy-requires
+copy-requires c κs = search needs
+
+cast-t13 : tie.Need-cast-t13
+cast-t13 c = search needs
+
+in-phase-requires : tie.Need-in-phase-requires
+in-phase-requires c κs = search needs
+
+same-length : tie.Need-same-length
+same-length c = search needs
+
+returns-2 : tie.Need-returns-2
+unfolding statusAnswer
+returns-2 c =
+    let fits : length (c .before .before .before .before .before .before .packet-of .result) ≤ length (c .before .before .before .before .before .before .before .before .before .args .reply .now) = rw (c .before .before .before .before .before .before .packet-of .ensures) (omega arith) in
+    rw (c .in-phase .ensures, c .before .before .before .copy .ensures ∙ to-front (c .before .before .before .before .before .before .before .before .before .args .reply .now) (c .before .before .before .before .before .before .packet-of .result) fits, c .before .before .before .before .before .before .packet-of .ensures)
+    (status-done (c .before .before .before .before .before .before .before .before .before .args .b) (c .before .before .before .before .before .before .before .before .before .args .reply .now) _ _ _ (c .before .before .before .before .before .before .before .before .before .pre .waits) (rw (c .before .before .before .before .before .before .before .before .before .pre .configured, c .before .before .before .before .before .before .before .before .before .pre .waits, c .before .before .before .before .before .before .before .before .before .pre .runs, le-ltb _ _ (c .before .before .before .before .before .before .before .if1 .left))))
+
+pub handed-out-spec : {M : Type 1} → statement M
+handed-out-spec =
+    tie.close
+    (tie.spec
+    answered-requires
+    returns
+    packet-of-requires
+    slice-aggregate-copy
+    copy-requires
+    cast-t13
+    in-phase-requires
+    same-length
+    returns-2)
