@@ -30,7 +30,8 @@ typedef void record_taker(void *context, const struct record *record);
 
 /* Hands every record of the named file to the taker. Where the file is torn it says so and returns
  * EXIT_REFUSED; where it cannot be read, EXIT_MISUSED. A header is judged before its payload is
- * asked for: a torn one is known at once. */
+ * asked for: a torn one is known at once. Standard output is written out before each wait for more,
+ * so that the other end may be a host that reads each answer before it goes on. */
 int record_each(const char *name, record_taker *take, void *context);
 
 /* Whether it was written; the header is written as it stands, torn or not. */
