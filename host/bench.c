@@ -1,4 +1,4 @@
-/* The bench: a second bridge from power-on, with the memory and the rooms that are lent to it. */
+/* The bench: a bridge from power-on, with the memory and the rooms that are lent to it. */
 #include "bench.h"
 
 #include "command.h"
@@ -61,14 +61,16 @@ static void *room(size_t bytes) {
 
 void bench_open(struct bench *bench, struct bench_sizes sizes) {
     bench->sizes = sizes;
+    bench->image = room(THRANDUE_IMAGE);
     bench->memory = room(sizes.memory);
     bench->reply = room(sizes.reply);
     bench->operations = room(sizes.operations * sizeof *bench->operations);
     bench->payload = room(RECORD_PAYLOAD_MOST);
-    second_power_on(&bench->bridge);
+    thrandue_power_on(bench->image, THRANDUE_IMAGE);
 }
 
 void bench_close(struct bench *bench) {
+    free(bench->image);
     free(bench->memory);
     free(bench->reply);
     free(bench->operations);
@@ -77,9 +79,9 @@ void bench_close(struct bench *bench) {
 
 static uint32_t control_event(struct bench *bench, const uint8_t *payload, size_t length) {
     size_t setup_len = length < SETUP_LENGTH ? length : SETUP_LENGTH;
-    return second_control(&bench->bridge, payload, setup_len, payload + setup_len,
-                          length - setup_len, bench->memory, bench->sizes.memory, bench->reply,
-                          bench->sizes.reply);
+    return thrandue_control(bench->image, THRANDUE_IMAGE, payload, setup_len, payload + setup_len,
+                            length - setup_len, bench->memory, bench->sizes.memory, bench->reply,
+                            bench->sizes.reply);
 }
 
 uint32_t bench_event(struct bench *bench, const struct record *record) {
@@ -88,15 +90,16 @@ uint32_t bench_event(struct bench *bench, const struct record *record) {
     memcpy(payload, record->payload, record->length);
     switch (record->kind) {
     case RECORD_BUS_RESET:
-        return second_bus_reset(&bench->bridge);
+        return thrandue_bus_reset(bench->image, THRANDUE_IMAGE);
     case RECORD_CONTROL:
         return control_event(bench, payload, record->length);
     case RECORD_PACKET:
-        return second_packet(&bench->bridge, payload, record->length, bench->operations,
-                             bench->sizes.operations);
+        return thrandue_packet(bench->image, THRANDUE_IMAGE, payload, record->length,
+                               bench->operations, bench->sizes.operations);
     case RECORD_REPORT:
-        return second_report(&bench->bridge, payload[0], payload[1], record_load(payload + 2, 4));
+        return thrandue_report(bench->image, THRANDUE_IMAGE, payload[0], payload[1],
+                               record_load(payload + 2, 4));
     default:
-        return second_status(&bench->bridge, bench->reply, bench->sizes.reply);
+        return thrandue_status(bench->image, THRANDUE_IMAGE, bench->reply, bench->sizes.reply);
     }
 }

@@ -1,9 +1,9 @@
-/* The bench: a second bridge from power-on, with the memory and the rooms that are lent to it. */
+/* The bench: a bridge from power-on, with the memory and the rooms that are lent to it. */
 #ifndef BENCH_H
 #define BENCH_H
 
 #include "record.h"
-#include "second_bridge.h"
+#include "thrandue.h"
 
 #include <stddef.h>
 #include <stdint.h>
@@ -16,7 +16,7 @@ struct bench_sizes {
 
 struct bench {
     struct bench_sizes sizes;
-    struct second_bridge bridge;
+    uint8_t *image;
     uint8_t *memory;
     uint8_t *reply;
     uint16_t *operations;

@@ -7,8 +7,9 @@
 
 static const char *program_name = "";
 
-void command_begin(const char *program) {
-    program_name = program;
+void command_begin(const char *path) {
+    const char *slash = strrchr(path, '/');
+    program_name = slash == NULL ? path : slash + 1;
 }
 
 static void say(const char *format, va_list arguments) {
@@ -83,6 +84,6 @@ int command_end(int status) {
 }
 
 int command_help(const char *text) {
-    fputs(text, stdout);
+    printf("%s %s", program_name, text);
     return command_end(EXIT_FINE);
 }

@@ -12,8 +12,8 @@ enum {
     EXIT_MISUSED = 2
 };
 
-/* Names the program in every message; to be called first. */
-void command_begin(const char *program);
+/* Names the program in every message, by the path that it was run by; to be called first. */
+void command_begin(const char *path);
 
 /* Both say "PROGRAM: MESSAGE" on standard error; misused also points at --help and returns
  * EXIT_MISUSED. */
@@ -32,7 +32,8 @@ bool command_is_option(const char *argument);
 /* "-" is standard input. NULL, and a message, where the file cannot be opened. */
 FILE *command_open(const char *name);
 
-/* Prints the text of --help and returns the status to end with. */
+/* Prints the program's name and the text of --help, which goes on from it, and returns the status
+ * to end with. */
 int command_help(const char *text);
 
 /* The status itself, or a message and EXIT_MISUSED where standard output was not written. */

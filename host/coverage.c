@@ -6,8 +6,8 @@
 #include <string.h>
 
 static const char help[] =
-    "coverage [OPTION..] FILE [[OPTION..] FILE..]\n"
-    "Replays sessions through the second bridge and prints how often each event, the control\n"
+    "[OPTION..] FILE [[OPTION..] FILE..]\n"
+    "Replays sessions and prints how often each event, the control\n"
     "requests one by one, met each answer in each phase before it; - where document 01 allows\n"
     "none. The options hold for the files after them:\n" BENCH_OPTIONS_HELP
     "Status 0: all is allowed, and met 100 times or more; 1: it is not, an event changed what it\n"
@@ -189,7 +189,7 @@ static bool same_from(size_t from, const void *one, const void *other, size_t by
 static void remember(struct coverage *coverage) {
     const struct bench *bench = &coverage->bench;
     struct bench *before = &coverage->before;
-    copy(&before->bridge, &bench->bridge, sizeof bench->bridge);
+    copy(before->image, bench->image, THRANDUE_IMAGE);
     copy(before->memory, bench->memory, bench->sizes.memory);
     copy(before->reply, bench->reply, bench->sizes.reply);
     copy(before->operations, bench->operations, bench->sizes.operations * sizeof(uint16_t));
@@ -200,13 +200,13 @@ static void remember(struct coverage *coverage) {
 static bool keeps_the_rest(const struct coverage *coverage, enum event event, uint32_t outcome) {
     const struct bench *bench = &coverage->bench;
     const struct bench *before = &coverage->before;
-    uint8_t answer = second_answer(outcome);
-    uint32_t operations = event == PACKET ? second_count(outcome) : 0;
-    uint32_t bytes = second_count(outcome) - operations;
-    if (answer != 0 && second_count(outcome) != 0)
+    uint8_t answer = thrandue_answer(outcome);
+    uint32_t operations = event == PACKET ? thrandue_count(outcome) : 0;
+    uint32_t bytes = thrandue_count(outcome) - operations;
+    if (answer != 0 && thrandue_count(outcome) != 0)
         return false;
     if (answer != 0 && answer != 13 && answer != 14 &&
-        !same_from(0, &bench->bridge, &before->bridge, sizeof bench->bridge))
+        !same_from(0, bench->image, before->image, THRANDUE_IMAGE))
         return false;
     if ((event != LOAD_CONFIG_DATA || answer != 0) &&
         !same_from(0, bench->memory, before->memory, bench->sizes.memory))
@@ -219,10 +219,10 @@ static bool keeps_the_rest(const struct coverage *coverage, enum event event, ui
 static void count_event(void *context, const struct record *record) {
     struct coverage *coverage = context;
     enum event event = event_of(record);
-    uint8_t phase = second_phase(&coverage->bench.bridge);
+    uint8_t phase = thrandue_phase(coverage->bench.image, THRANDUE_IMAGE);
     remember(coverage);
     uint32_t outcome = bench_event(&coverage->bench, record);
-    uint8_t answer = second_answer(outcome);
+    uint8_t answer = thrandue_answer(outcome);
     coverage->counts[event][answer][phase]++;
     if (keeps_the_rest(coverage, event, outcome))
         return;
@@ -297,7 +297,7 @@ int main(int argc, char **argv) {
     const char *argument;
     bool counted = false;
     (void)argc;
-    command_begin("coverage");
+    command_begin(argv[0]);
     while ((argument = bench_argument(&arguments)) != NULL) {
         if (command_is_option(argument))
             return command_misused("there is no option %s", argument);

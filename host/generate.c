@@ -6,7 +6,7 @@
 #include <string.h>
 
 static const char help[] =
-    "generate SEED EVENTS [--torn] [OPTION..]\n"
+    "SEED EVENTS [--torn] [OPTION..]\n"
     "Writes a session of EVENTS records to standard output, for a seed the same everywhere; with\n"
     "--torn a torn record follows. The options say for which bench it is made:\n" BENCH_OPTIONS_HELP
     "Status 2: bad usage, or standard output that cannot be written.\n";
@@ -238,8 +238,8 @@ static void control(struct generator *g) {
 static uint8_t command_signature(struct generator *g) {
     static const uint8_t read_signature[SETUP_LENGTH] = {0xC0, 0x02, 0x00, 0x00, 0x04, 0x00, 1, 0};
     uint8_t signature = 0x24;
-    second_control(&g->bench.bridge, read_signature, sizeof read_signature, NULL, 0, NULL, 0,
-                   &signature, 1);
+    thrandue_control(g->bench.image, THRANDUE_IMAGE, read_signature, sizeof read_signature, NULL, 0,
+                     NULL, 0, &signature, 1);
     return signature;
 }
 
@@ -370,27 +370,27 @@ static void anything(struct generator *g) {
 
 /* What moves on from the phase: what a host would send next. */
 static void next_step(struct generator *g) {
-    uint8_t halts = second_halts(&g->bench.bridge);
-    uint32_t halted = halts & SECOND_HALT_IN ? ENDPOINT_IN : ENDPOINT_OUT;
-    if (halts == (SECOND_HALT_IN | SECOND_HALT_OUT))
+    uint8_t halts = thrandue_halts(g->bench.image, THRANDUE_IMAGE);
+    uint32_t halted = halts & THRANDUE_HALT_IN ? ENDPOINT_IN : ENDPOINT_OUT;
+    if (halts == (THRANDUE_HALT_IN | THRANDUE_HALT_OUT))
         halted = pipe_index(g);
-    switch (second_phase(&g->bench.bridge)) {
-    case SECOND_AWAITING:
+    switch (thrandue_phase(g->bench.image, THRANDUE_IMAGE)) {
+    case THRANDUE_AWAITING:
         if (halts != 0 && chance(g, 50))
             setup(g, CLEAR_FEATURE, 0, halted, 0);
         else
             packet(g);
         break;
-    case SECOND_BUSY:
+    case THRANDUE_BUSY:
         report(g);
         break;
-    case SECOND_STATUS_WAITING:
+    case THRANDUE_STATUS_WAITING:
         if (halts != 0 && chance(g, 50))
             setup(g, CLEAR_FEATURE, 0, halted, 0);
         else
             start(g, RECORD_STATUS, 0);
         break;
-    case SECOND_STOPPED:
+    case THRANDUE_STOPPED:
         setup(g, MASS_STORAGE_RESET, 0, 0, 0);
         break;
     default:
@@ -401,8 +401,8 @@ static void next_step(struct generator *g) {
 /* Each phase lasts long enough to meet every kind of event, and ends often enough. */
 static void compose(struct generator *g) {
     static const uint8_t percent_of_next_steps[] = {40, 10, 15, 4, 4};
-    bool configured = second_configuration(&g->bench.bridge) != 0;
-    uint8_t phase = second_phase(&g->bench.bridge);
+    bool configured = thrandue_configuration(g->bench.image, THRANDUE_IMAGE) != 0;
+    uint8_t phase = thrandue_phase(g->bench.image, THRANDUE_IMAGE);
     if (!configured && chance(g, 25))
         setup(g, SET_CONFIGURATION, 2, 0, 0);
     else if (configured && chance(g, percent_of_next_steps[phase]))
@@ -413,7 +413,7 @@ static void compose(struct generator *g) {
 
 static void follow(struct generator *g) {
     uint32_t outcome = bench_event(&g->bench, &g->record);
-    if (g->record.kind != RECORD_PACKET || second_answer(outcome) != SECOND_DONE)
+    if (g->record.kind != RECORD_PACKET || thrandue_answer(outcome) != THRANDUE_DONE)
         return;
     const uint8_t *packet = g->record.payload;
     g->length = record_load(packet + PACKET_TRANSFER_LENGTH, 4);
@@ -458,7 +458,7 @@ int main(int argc, char **argv) {
     int given = 0;
     bool torn = false;
     (void)argc;
-    command_begin("generate");
+    command_begin(argv[0]);
     while ((argument = bench_argument(&arguments)) != NULL) {
         if (strcmp(argument, "--torn") == 0)
             torn = true;

@@ -475,7 +475,7 @@ uint32_t second_packet(struct second_bridge *bridge, const uint8_t *packet, size
     if (count == 0)
         return SECOND_OPERATION_ROOM;
     bridge->tag = tag;
-    bridge->length = length;
+    bridge->residue = length;
     bridge->direction = direction;
     bridge->phase = SECOND_BUSY;
     return handed_out((uint32_t)count);
@@ -489,7 +489,7 @@ uint32_t second_report(struct second_bridge *bridge, uint8_t direction, uint8_t 
         return SECOND_WRONG_PHASE;
     if (direction > DIRECTION_OUT || failed > 1 || (direction == DIRECTION_NONE && amount != 0))
         return SECOND_REPORT_MALFORMED;
-    uint32_t length = bridge->length;
+    uint32_t length = bridge->residue;
     bool disagrees = amount > length || (amount != 0 && direction != bridge->direction);
     if (length != 0 && (disagrees || amount < length))
         bridge->halts |= pipe_of(bridge->direction);

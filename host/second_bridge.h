@@ -48,8 +48,7 @@ enum {
 /* Callers provide the room and leave the fields to the calls below. */
 struct second_bridge {
     uint32_t tag;      /* busy, status waiting */
-    uint32_t length;   /* busy */
-    uint32_t residue;  /* status waiting */
+    uint32_t residue;  /* status waiting; while busy L, of which nothing has moved yet */
     uint8_t direction; /* busy, as reports number it */
     uint8_t status;    /* status waiting */
     uint8_t phase;

@@ -6,9 +6,9 @@
 #include <string.h>
 
 static const char help[] =
-    "session encode [FILE]   text to records\n"
-    "session decode [FILE]   records to text\n"
-    "Without FILE, or for -, it reads standard input. sessions/README.md describes the text.\n"
+    "encode|decode [FILE]\n"
+    "Turns a session from text into records, or from records into text. Without FILE, or for -,\n"
+    "it reads standard input. sessions/README.md describes the text.\n"
     "Status 0: all is written; 1: a line that cannot be read, named by its number, or a torn\n"
     "session; 2: bad usage, or a file that cannot be read or written.\n";
 
@@ -393,7 +393,7 @@ static void print_record(void *context, const struct record *record) {
 }
 
 int main(int argc, char **argv) {
-    command_begin("session");
+    command_begin(argv[0]);
     if (argc >= 2 && strcmp(argv[1], "--help") == 0)
         return command_help(help);
     if (argc < 2 || argc > 3)

@@ -1,22 +1,23 @@
-/* second: replays a session through the second bridge and prints what the bench prints. */
+/* replay: replays a session through the bridge it is linked with, and prints what the bench prints.
+ */
 #include "bench.h"
 #include "command.h"
 
 #include <stdio.h>
 
 static const char help[] =
-    "second [OPTION..] [FILE]\n"
-    "Replays a session of records through the second bridge and prints, for each event, the\n"
-    "answer number and then the reply's bytes or the operations. Without FILE, or for -, it reads\n"
-    "standard input.\n" BENCH_OPTIONS_HELP
+    "[OPTION..] [FILE]\n"
+    "Replays a session of records through the bridge, the proved one in replay and the one written\n"
+    "by hand in second, and prints, for each event, the answer number and then the reply's bytes or\n"
+    "the operations. Without FILE, or for -, it reads standard input.\n" BENCH_OPTIONS_HELP
     "Status 0: every event is answered; 1: the session is torn, and the last line says torn;\n"
     "2: bad usage, or a file that cannot be read or written.\n";
 
 static void answer(void *context, const struct record *record) {
     struct bench *bench = context;
     uint32_t outcome = bench_event(bench, record);
-    uint32_t count = second_count(outcome);
-    printf("%u", (unsigned)second_answer(outcome));
+    uint32_t count = thrandue_count(outcome);
+    printf("%u", (unsigned)thrandue_answer(outcome));
     for (uint32_t i = 0; i < count; i++) {
         if (record->kind == RECORD_PACKET)
             printf(" %04X", (unsigned)bench->operations[i]);
@@ -41,7 +42,7 @@ int main(int argc, char **argv) {
     const char *name = NULL;
     const char *argument;
     (void)argc;
-    command_begin("second");
+    command_begin(argv[0]);
     while ((argument = bench_argument(&arguments)) != NULL) {
         if (command_is_option(argument))
             return command_misused("there is no option %s", argument);

@@ -1,0 +1,85 @@
+/* The calls of thrandue.h by the second bridge: a program links both files in place of the archive.
+ * An image is that of a state which these calls made; nothing else is known to read it. */
+#include "second_bridge.h"
+#include "thrandue.h"
+
+#include <stdbool.h>
+#include <string.h>
+
+_Static_assert(sizeof(struct second_bridge) <= THRANDUE_IMAGE, "an image holds a second bridge");
+
+static bool load(struct second_bridge *bridge, const uint8_t *image, size_t image_len) {
+    if (image_len != THRANDUE_IMAGE)
+        return false;
+    memcpy(bridge, image, sizeof *bridge);
+    return true;
+}
+
+static uint32_t store(uint8_t *image, const struct second_bridge *bridge, uint32_t outcome) {
+    memcpy(image, bridge, sizeof *bridge);
+    return outcome;
+}
+
+uint32_t thrandue_power_on(uint8_t *image, size_t image_len) {
+    struct second_bridge bridge;
+    if (!load(&bridge, image, image_len))
+        return THRANDUE_NO_IMAGE;
+    return store(image, &bridge, second_power_on(&bridge));
+}
+
+uint32_t thrandue_bus_reset(uint8_t *image, size_t image_len) {
+    struct second_bridge bridge;
+    if (!load(&bridge, image, image_len))
+        return THRANDUE_NO_IMAGE;
+    return store(image, &bridge, second_bus_reset(&bridge));
+}
+
+uint32_t thrandue_control(uint8_t *image, size_t image_len, const uint8_t *setup, size_t setup_len,
+                          const uint8_t *host, size_t host_len, uint8_t *memory, size_t memory_len,
+                          uint8_t *reply, size_t reply_len) {
+    struct second_bridge bridge;
+    if (!load(&bridge, image, image_len))
+        return THRANDUE_NO_IMAGE;
+    return store(image, &bridge,
+                 second_control(&bridge, setup, setup_len, host, host_len, memory, memory_len,
+                                reply, reply_len));
+}
+
+uint32_t thrandue_packet(uint8_t *image, size_t image_len, const uint8_t *packet, size_t packet_len,
+                         uint16_t *operations, size_t operations_len) {
+    struct second_bridge bridge;
+    if (!load(&bridge, image, image_len))
+        return THRANDUE_NO_IMAGE;
+    return store(image, &bridge,
+                 second_packet(&bridge, packet, packet_len, operations, operations_len));
+}
+
+uint32_t thrandue_report(uint8_t *image, size_t image_len, uint8_t direction, uint8_t failed,
+                         uint32_t amount) {
+    struct second_bridge bridge;
+    if (!load(&bridge, image, image_len))
+        return THRANDUE_NO_IMAGE;
+    return store(image, &bridge, second_report(&bridge, direction, failed, amount));
+}
+
+uint32_t thrandue_status(uint8_t *image, size_t image_len, uint8_t *reply, size_t reply_len) {
+    struct second_bridge bridge;
+    if (!load(&bridge, image, image_len))
+        return THRANDUE_NO_IMAGE;
+    return store(image, &bridge, second_status(&bridge, reply, reply_len));
+}
+
+uint8_t thrandue_phase(const uint8_t *image, size_t image_len) {
+    struct second_bridge bridge;
+    return load(&bridge, image, image_len) ? second_phase(&bridge) : THRANDUE_NO_IMAGE;
+}
+
+uint8_t thrandue_configuration(const uint8_t *image, size_t image_len) {
+    struct second_bridge bridge;
+    return load(&bridge, image, image_len) ? second_configuration(&bridge) : THRANDUE_NO_IMAGE;
+}
+
+uint8_t thrandue_halts(const uint8_t *image, size_t image_len) {
+    struct second_bridge bridge;
+    return load(&bridge, image, image_len) ? second_halts(&bridge) : THRANDUE_NO_IMAGE;
+}
