@@ -1,21 +1,32 @@
-/* replay: replays a session through the bridge it is linked with, and prints what the bench prints.
- */
+/* replay: replays a session through the bridge it is linked with; prints what the bench prints. */
 #include "bench.h"
 #include "command.h"
+#include "explain.h"
 
 #include <stdio.h>
+#include <string.h>
 
 static const char help[] =
     "[OPTION..] [FILE]\n"
-    "Replays a session of records through the bridge, the proved one in replay and the one written\n"
-    "by hand in second, and prints, for each event, the answer number and then the reply's bytes or\n"
-    "the operations. Without FILE, or for -, it reads standard input.\n" BENCH_OPTIONS_HELP
+    "Replays a session of records through the bridge, the proved one in replay and the one "
+    "written\n"
+    "by hand in second, and prints, for each event, the answer number and then the reply's bytes "
+    "or\n"
+    "the operations. Without FILE, or for -, it reads standard input.\n"
+    "  --explain       under each answer a line that says in words what came, what the bridge\n"
+    "                  answered and how it then stands\n" BENCH_OPTIONS_HELP
     "Status 0: every event is answered; 1: the session is torn, and the last line says torn;\n"
     "2: bad usage, or a file that cannot be read or written.\n";
 
+struct replay {
+    struct bench bench;
+    bool explains;
+};
+
 static void answer(void *context, const struct record *record) {
-    struct bench *bench = context;
-    uint32_t outcome = bench_event(bench, record);
+    struct replay *replay = context;
+    const struct bench *bench = &replay->bench;
+    uint32_t outcome = bench_event(&replay->bench, record);
     uint32_t count = thrandue_count(outcome);
     printf("%u", (unsigned)thrandue_answer(outcome));
     for (uint32_t i = 0; i < count; i++) {
@@ -25,15 +36,17 @@ static void answer(void *context, const struct record *record) {
             printf(" %02X", (unsigned)bench->reply[i]);
     }
     putchar('\n');
+    if (replay->explains)
+        explain_event(bench, record, outcome);
 }
 
-static int replay(const char *name, struct bench_sizes sizes) {
-    struct bench bench;
-    bench_open(&bench, sizes);
-    int status = record_each(name, answer, &bench);
+static int run(const char *name, struct bench_sizes sizes, bool explains) {
+    struct replay replay = {.explains = explains};
+    bench_open(&replay.bench, sizes);
+    int status = record_each(name, answer, &replay);
     if (status == EXIT_REFUSED)
         puts("torn");
-    bench_close(&bench);
+    bench_close(&replay.bench);
     return command_end(status);
 }
 
@@ -41,14 +54,18 @@ int main(int argc, char **argv) {
     struct bench_arguments arguments = bench_arguments(argv, help);
     const char *name = NULL;
     const char *argument;
+    bool explains = false;
     (void)argc;
     command_begin(argv[0]);
     while ((argument = bench_argument(&arguments)) != NULL) {
-        if (command_is_option(argument))
+        if (strcmp(argument, "--explain") == 0)
+            explains = true;
+        else if (command_is_option(argument))
             return command_misused("there is no option %s", argument);
-        if (name != NULL)
+        else if (name != NULL)
             return command_misused("%s is a second file", argument);
-        name = argument;
+        else
+            name = argument;
     }
-    return replay(name == NULL ? "-" : name, arguments.sizes);
+    return run(name == NULL ? "-" : name, arguments.sizes, explains);
 }
