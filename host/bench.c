@@ -2,13 +2,13 @@
 #include "bench.h"
 
 #include "command.h"
+#include "layout.h"
 
 #include <stdlib.h>
 #include <string.h>
 
 enum {
     SIZE_MOST = 1000000,
-    SETUP_LENGTH = 8,
     ERASED = 0xFF
 };
 

@@ -1,6 +1,7 @@
 /* coverage: counts the answers that sessions meet, against those that document 01 allows. */
 #include "bench.h"
 #include "command.h"
+#include "layout.h"
 
 #include <stdio.h>
 #include <string.h>
@@ -16,7 +17,6 @@ static const char help[] =
 enum {
     PHASES = 5,
     ANSWERS = UINT8_MAX + 1,
-    SETUP_LENGTH = 8,
     LEAST = 100
 };
 

@@ -2,25 +2,13 @@
  * these parts with | between them, and commas inside. */
 #include "explain.h"
 
+#include "layout.h"
+
 #include <stdio.h>
 #include <string.h>
 
 enum {
-    SETUP_LENGTH = 8,
     SETUP_FIELDS = 3,
-    PACKET_LENGTH = 31,
-    PACKET_TAG = 4,
-    PACKET_TRANSFER_LENGTH = 8,
-    PACKET_FLAGS = 12,
-    PACKET_LUN = 13,
-    PACKET_BLOCK_LENGTH = 14,
-    PACKET_BLOCK = 15,
-    BLOCK_LENGTH = 16,
-    FLAGS_IN = 0x80,
-    STATUS_LENGTH = 13,
-    STATUS_TAG = 4,
-    STATUS_RESIDUE = 8,
-    STATUS_STATUS = 12,
     KIND_TRANSFER = 0x03,
     TRANSFER_IN = 0x01
 };
@@ -31,8 +19,9 @@ struct word {
     const char *text;
 };
 
-static const struct word places[] = {{0x0000, "configuration bytes"}, {0x0002, "memory"}, {0}};
-static const struct word pipes[] = {{0x01, "bulk out"}, {0x82, "bulk in"}, {0}};
+static const struct word places[] = {
+    {PLACE_CONFIGURATION, "configuration bytes"}, {PLACE_MEMORY, "memory"}, {0}};
+static const struct word pipes[] = {{ENDPOINT_OUT, "bulk out"}, {ENDPOINT_IN, "bulk in"}, {0}};
 static const struct word flags[] = {{0x00, "out"}, {FLAGS_IN, "in"}, {0}};
 static const struct word directions[] = {{0, "no direction"}, {1, "in"}, {2, "out"}, {0}};
 static const struct word failures[] = {{0, "good"}, {1, "failed"}, {0}};
@@ -89,9 +78,19 @@ static void show_word(const struct word *words, const char *name, int digits, un
         printf(", %s 0x%0*X", name, digits, number);
 }
 
-static void show_bytes(const uint8_t *bytes, size_t count) {
+static void show_bytes(const char *name, const uint8_t *bytes, size_t count) {
+    printf(", %s", name);
     for (size_t i = 0; i < count; i++)
         printf(" %02X", (unsigned)bytes[i]);
+}
+
+/* What is cut short or too long to have fields. */
+static void show_malformed(const char *name, const uint8_t *bytes, size_t length) {
+    printf("%s, length %zu", name, length);
+    if (length > 0)
+        show_bytes("bytes", bytes, length < PACKET_LENGTH ? length : PACKET_LENGTH);
+    if (length > PACKET_LENGTH)
+        fputs(" ..", stdout);
 }
 
 static void show_configuration(unsigned number) {
@@ -179,8 +178,7 @@ static void explain_request(const uint8_t *setup) {
 
 static void explain_control(const uint8_t *payload, size_t length) {
     if (length < SETUP_LENGTH) {
-        printf("setup of %zu bytes", length);
-        show_bytes(payload, length);
+        show_malformed("setup", payload, length);
         return;
     }
     explain_request(payload);
@@ -191,15 +189,13 @@ static void explain_control(const uint8_t *payload, size_t length) {
 static void explain_packet(const uint8_t *packet, size_t length) {
     static const uint8_t signature[] = {0x55, 0x53, 0x42, 0x43};
     if (length != PACKET_LENGTH) {
-        printf("command packet of %zu bytes", length);
+        show_malformed("command packet", packet, length);
         return;
     }
     uint32_t transfer = record_load(packet + PACKET_TRANSFER_LENGTH, 4);
     fputs("command packet", stdout);
-    if (memcmp(packet, signature, sizeof signature) != 0) {
-        fputs(", signature", stdout);
-        show_bytes(packet, sizeof signature);
-    }
+    if (memcmp(packet, signature, sizeof signature) != 0)
+        show_bytes("signature", packet, sizeof signature);
     printf(", tag 0x%08lX, L %lu", (unsigned long)record_load(packet + PACKET_TAG, 4),
            (unsigned long)transfer);
     if (transfer == 0 && (packet[PACKET_FLAGS] & ~FLAGS_IN) == 0)
@@ -210,8 +206,7 @@ static void explain_packet(const uint8_t *packet, size_t length) {
         printf(", LUN 0x%02X", (unsigned)packet[PACKET_LUN]);
     if (packet[PACKET_BLOCK_LENGTH] != BLOCK_LENGTH)
         printf(", block length %u", (unsigned)packet[PACKET_BLOCK_LENGTH]);
-    fputs(", block", stdout);
-    show_bytes(packet + PACKET_BLOCK, BLOCK_LENGTH);
+    show_bytes("block", packet + PACKET_BLOCK, BLOCK_LENGTH);
 }
 
 static void explain_report(const uint8_t *report) {

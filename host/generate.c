@@ -1,6 +1,7 @@
 /* generate: writes a session of records from a seed, steered towards the edges of document 01. */
 #include "bench.h"
 #include "command.h"
+#include "layout.h"
 
 #include <stdio.h>
 #include <string.h>
@@ -12,24 +13,11 @@ static const char help[] =
     "Status 2: bad usage, or standard output that cannot be written.\n";
 
 enum {
-    SETUP_LENGTH = 8,
     HOST_DATA_MOST = RECORD_PAYLOAD_MOST - SETUP_LENGTH,
     CONFIGURATION_BYTES = 16,
     MEMORY_MOST = 2048,
     PAGE = 256,
-    PACKET_LENGTH = 31,
-    PACKET_TAG = 4,
-    PACKET_TRANSFER_LENGTH = 8,
-    PACKET_FLAGS = 12,
-    PACKET_LUN = 13,
-    PACKET_BLOCK_LENGTH = 14,
-    PACKET_BLOCK = 15,
-    FLAGS_IN = 0x80,
     REGISTERS_READ = 8,
-    PLACE_CONFIGURATION = 0x0000,
-    PLACE_MEMORY = 0x0002,
-    ENDPOINT_OUT = 0x01,
-    ENDPOINT_IN = 0x82,
     TORN_PAYLOAD_MOST = 16
 };
 
