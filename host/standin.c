@@ -1,5 +1,5 @@
-/* The calls of thrandue.h by the second bridge: a program links both files in place of the archive.
- * An image is that of a state which these calls made; nothing else is known to read it. */
+/* The calls of thrandue.h by the second bridge: a program links the two in place of the archive.
+ * The image is the second bridge's own state, and not laid out as the archive's. */
 #include "second_bridge.h"
 #include "thrandue.h"
 
