@@ -1,13 +1,15 @@
--- Laws that the crates above cite: what `copy` leaves where all of it fits, and a bool as a byte.
+-- Laws that the crates above cite: what `copy` leaves where all of it fits, a bool as a byte, and a loop that counts down.
 use mathlib.Core.Path.{_≡_, refl, ap}
-use mathlib.Core.Bool.{Bool, true, false}
+use mathlib.Core.Bool.{Bool, true, false, _&&_, and-eq-true-iff}
 use mathlib.Core.List.{List, _++_}
 use Prim.Native.Nat.{ℕ, _+_, _-_, _≤_, min}
 use native.Mathlib.Nat.{zero-add}
 use native.Mathlib.Omega.{arith}
+use lib.Dec.{ltb}
 use lib.ListN.{length, drop}
 use lib.Seq.{paste, take-length}
 use mir.Val.{boolByte}
+use borrow.Author.Tests.{ltb-true}
 use Rattle.rules.specs.Words.{laid, one}
 
 -- how much is copied where it all fits
@@ -27,3 +29,7 @@ bool-byte false = refl
 pub bool-most : (b : Bool) → boolByte b ≤ 1
 bool-most true = omega arith
 bool-most false = omega arith
+
+-- a loop that goes on while a test holds and its count is above 0
+pub counts-down : (t : Bool) (n : ℕ) → (t && ltb 0 n) ≡ true → 1 ≤ n
+counts-down t n e = ltb-true 0 n (and-eq-true-iff t (ltb 0 n) .0 e .1)

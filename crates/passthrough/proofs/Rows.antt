@@ -3,37 +3,39 @@ use mathlib.Core.Path.{_≡_, refl, sym, ap, _∙_}
 use mathlib.Core.Bool.{Bool, true, false}
 use mathlib.Core.List.{List, [], _∷_, _++_, append-assoc}
 use Prim.Native.Nat.{ℕ, suc, _+_, _≤_, _<_}
-use native.Mathlib.Nat.{zero-add, add-zero, suc-add, add-suc, le-refl}
+use native.Mathlib.Nat.{add-zero, le-refl}
 use native.Mathlib.Decide.{le-ind}
 use native.Mathlib.Numerals.{add-one}
 use native.Mathlib.Omega.{arith}
-use lib.ListN.{length, set, length-append}
-use lib.Seq.{sets, sets-eq, length-sets}
+use lib.ListN.{length, length-append}
 use Rattle.rules.specs.declared.Direction.{Direction}
 use Rattle.rules.specs.Words.{laid}
 use Rattle.rules.specs.Operations.{Operation, Read, code, codes, polls, selects, writes, reads, transfers, writeBlock, readBlock, commanded}
+use Rattle.lent.specs.Rows.{Put as PutNumbers}
+use Rattle.lent.proofs.Rows.{put-length as numbers-length, put-put as put-numbers, put-laid as numbers-laid}
 use Rattle.passthrough.specs.Rows.{Put, Fits, rising, accesses}
 
 pub length-codes : (os : List Operation) → length (codes os) ≡ length os
 length-codes [] = refl
 length-codes (o ∷ os) = ap suc (length-codes os)
 
--- storing xs and ys is storing xs, and then ys behind it
-sets-codes : (xs ys : List Operation) (l : List ℕ) (i : ℕ)
-    → sets l i (codes (xs ++ ys)) ≡ sets (sets l i (codes xs)) (i + length xs) (codes ys)
-sets-codes [] ys l i = rw add-zero
-sets-codes (x ∷ xs) ys l i = rw (add-suc, ← suc-add) (sets-codes xs ys (set l i (code x)) (suc i))
+codes-append : (xs ys : List Operation) → codes (xs ++ ys) ≡ codes xs ++ codes ys
+codes-append [] ys = refl
+codes-append (x ∷ xs) ys = ap (λ (l : List ℕ). code x ∷ l) (codes-append xs ys)
 
--- what is put keeps the room's length; what is put behind what is put
+-- a row of operations is the row of their codes
+as-codes : {a b : List ℕ} {i j : ℕ} {os : List Operation} → Put a i os b j → PutNumbers a i (codes os) b j
+as-codes {os = os} p = record { stored = p .stored; moved = rw (length-codes os) (p .moved) }
+
+from-codes : {a b : List ℕ} {i j : ℕ} {os : List Operation} → PutNumbers a i (codes os) b j → Put a i os b j
+from-codes {os = os} p = record { stored = p .stored; moved = rw (length-codes os) at (p .moved) }
+
 pub put-length : {a b : List ℕ} {i j : ℕ} {os : List Operation} → Put a i os b j → length b ≡ length a
-put-length {a} {i = i} {os = os} p = ap length (p .stored) ∙ length-sets a i (codes os)
+put-length p = numbers-length (as-codes p)
 
 module _ {a b : List ℕ} {i j : ℕ} (xs ys : List Operation) (p : Put a i xs b j) where
   pub put-put : {c : List ℕ} {k : ℕ} → Put b j ys c k → Put a i (xs ++ ys) c k
-  put-put q = record {
-    stored = rw (q .stored, p .stored, p .moved) (sym (sets-codes xs ys a i));
-    moved = rw (q .moved, p .moved, length-append) (omega arith);
-  }
+  put-put q = from-codes (rw (codes-append xs ys) (put-numbers (codes xs) (codes ys) (as-codes p) (as-codes q)))
 
   -- where xs and ys have room, ys has it behind xs
   pub fits-next : Fits a i (xs ++ ys) → Fits b j ys
@@ -42,8 +44,7 @@ module _ {a b : List ℕ} {i j : ℕ} (xs ys : List Operation) (p : Put a i xs b
 -- what is put at the front of the room is laid there
 pub put-laid : {room after : List ℕ} {os : List Operation} {next : ℕ} → Put room 0 os after next → Fits room 0 os
     → after ≡ laid (codes os) room
-put-laid {room} {os = os} p h =
-    rw (p .stored, sets-eq (codes os) room 0 (rw length-codes h), zero-add)
+put-laid {os = os} p h = numbers-laid (as-codes p) (rw (length-codes os) h)
 
 -- the room that a block takes is what its parts take
 length-parts : (p q r s t : List Operation) → length (p ++ q ++ r ++ s ++ t) ≡ length p + length q + length r + length s + length t

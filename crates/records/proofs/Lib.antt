@@ -1,0 +1,5 @@
+mod Heads
+mod Printing
+mod Rows
+mod Running
+mod Turning

@@ -1,0 +1,71 @@
+-- `records::events::print_control` meets its contract.
+use mathlib.Core.Path.{_≡_, sym}
+use lib.Seq.{length-take-le}
+use Prim.Native.Nat.{_-_, min}
+use lib.ListN.{length, take, drop}
+use native.Mathlib.Omega.{arith}
+use borrow.Author.Needs.{needs}
+use Rattle.rules.specs.Held.{world}
+use Rattle.rules.specs.Step.{Control}
+use Rattle.records.proofs.Printing.{count-fits, control-prints}
+use Rattle.records.proofs.events.print_control.Statement.{statement}
+use Rattle.records.proofs.events.print_control.Tie as tie
+
+setup-length-requires : tie.Need-setup-length-requires
+setup-length-requires c κs = search needs
+
+slice-aggregate-control : tie.Need-slice-aggregate-control
+slice-aggregate-control c =
+    let p = c .before .before .before .before .before .before .args .payload .now in
+    let short : c .before .setup-length .result ≡ min (length p) 8 = c .before .setup-length .ensures in
+    sym (length-take-le (c .before .setup-length .result) p (omega (arith, short)))
+
+sub-control : tie.Need-sub-control
+sub-control c = search needs
+
+part-control-start : tie.Need-part-control-start
+part-control-start c = search needs
+
+part-control-end : tie.Need-part-control-end
+part-control-end c = search needs
+
+control-requires : tie.Need-control-requires
+control-requires c κs = search needs
+
+print-bytes-requires : tie.Need-print-bytes-requires
+print-bytes-requires c κs =
+    let start = c .before .before .before .before .before .before .before .before .before .before .before .before .before .before .before .before in
+    let p = start .args .payload .now in
+    let n = c .before .before .before .before .before .before .before .before .before .before .before .setup-length .result in
+    let fits = count-fits (world (start .args .b) (start .args .memory .now)) (Control (take n p) (take (length p - n) (drop n p))) (start .args .reply .now) (c .before .before .before .before .before .before .control .result) _ _ (c .before .before .before .before .before .before .control .ensures) (c .before .before .before .reply .given) in
+    (fits, omega (arith, c .before .before .before .reply .given, start .pre .0), start .pre .1)
+
+same-length : tie.Need-same-length
+same-length c = search needs
+
+same-length-2 : tie.Need-same-length-2
+same-length-2 c = search needs
+
+same-length-3 : tie.Need-same-length-3
+same-length-3 c = search needs
+
+returns : tie.Need-returns
+returns c =
+    let start = c .before .before .before .before .before .before .before .before .before .before .before .before .before .before .before .before .before .before .before in
+    control-prints (world (start .args .b) (start .args .memory .now)) (start .args .payload .now) (start .args .reply .now) (c .before .before .before .before .before .before .before .before .before .before .before .before .before .before .setup-length .ensures) (start .pre .0) (c .before .before .before .before .before .before .before .before .before .control .ensures) (c .before .before .print-bytes .ensures)
+
+pub print-control-spec : {M : Type 1} → statement M
+print-control-spec =
+    tie.close
+    (tie.spec
+    setup-length-requires
+    slice-aggregate-control
+    sub-control
+    part-control-start
+    part-control-end
+    control-requires
+    print-bytes-requires
+    same-length
+    same-length-2
+    same-length-3
+    returns)

@@ -1,0 +1,46 @@
+-- `records::events::print_packet` meets its contract.
+use lib.ListN.{replicate}
+use mathlib.Core.Path.{refl}
+use mathlib.Core.List.{[]}
+use native.Mathlib.Omega.{arith}
+use borrow.Author.Needs.{needs}
+use Rattle.rules.specs.Held.{world}
+use Rattle.rules.specs.Step.{Packet}
+use Rattle.records.specs.Lines.{hexWord}
+use Rattle.records.specs.Records.{eventOf}
+use Rattle.records.proofs.Printing.{count-fits, prints}
+use Rattle.records.proofs.events.print_packet.Statement.{statement}
+use Rattle.records.proofs.events.print_packet.Tie as tie
+
+slice-aggregate-packet : tie.Need-slice-aggregate-packet
+slice-aggregate-packet c = search needs
+
+packet-requires : tie.Need-packet-requires
+packet-requires c κs = search needs
+
+slice-aggregate-print-words : tie.Need-slice-aggregate-print-words
+slice-aggregate-print-words c = search needs
+
+print-words-requires : tie.Need-print-words-requires
+print-words-requires c κs =
+    let start = c .before .before .before .before .before .before .before in
+    let fits = count-fits (world (start .args .b) []) (Packet (start .args .payload .now)) (replicate 11 0) (c .before .before .before .packet .result) [] _ (c .before .before .before .packet .ensures []) (c .before .before .operations2 .given) in
+    (fits, omega (arith, c .before .before .operations2 .given), start .pre)
+
+same-length : tie.Need-same-length
+same-length c = search needs
+
+returns : tie.Need-returns
+unfolding eventOf
+returns c = λ m. prints (world (c .before .before .before .before .before .before .before .before .before .before .args .b) m) (Packet (c .before .before .before .before .before .before .before .before .before .before .args .payload .now)) (replicate 11 0) (c .before .before .before .before .before .before .packet .result) m _ (c .before .before .before .before .before .before .packet .ensures m) hexWord refl (c .before .before .print-words .ensures)
+
+pub print-packet-spec : {M : Type 1} → statement M
+print-packet-spec =
+    tie.close
+    (tie.spec
+    slice-aggregate-packet
+    packet-requires
+    slice-aggregate-print-words
+    print-words-requires
+    same-length
+    returns)

@@ -1,0 +1,66 @@
+-- What the functions behind `run` leave: the line of an outcome, of an event, and the first record of a block.
+use Prim.Native.Nat.{ℕ, _+_, _-_, _≤_}
+use mathlib.Core.Path.{_≡_}
+use mathlib.Core.Bool.{Bool, true, false}
+use mathlib.Core.List.{List, [], _∷_, _++_}
+use lib.ListN.{length, take}
+use Rattle.rules.specs.Held.{World, world}
+use Rattle.rules.specs.Step.{Event, step}
+use Rattle.held.specs.declared.Outcome.{Outcome}
+use Rattle.lent.specs.Rows.{Put}
+use Rattle.records.specs.declared.Head.{Head}
+use Rattle.records.specs.declared.Head.the-variants.{Whole, Torn, Part}
+use Rattle.records.specs.declared.Printed.{Printed}
+use Rattle.records.specs.declared.Turned.{Turned}
+use Rattle.records.specs.Records.{lengthOf}
+use Rattle.records.specs.Lines.{number, each, line}
+use Rattle.records.specs.Runs.{Run, eventIn, turnIn}
+
+-- the line of an outcome, with what it handed out at the front of `out`
+pub record Line (f : ℕ → List ℕ) (o : Outcome) (out room : List ℕ) (at : ℕ) (p : Printed) (now : List ℕ) : Type 0 where
+  pub bridge : p .bridge ≡ o .bridge
+  pub line : Put room at (number (o .answer) ++ each f (take (o .count) out) ++ 0x0A ∷ []) now (p .next)
+  pub fits : p .next ≤ length room
+
+pub record Prints (w : World) (e : Event) (room : List ℕ) (at : ℕ) (p : Printed) (memory now : List ℕ) : Type 0 where
+  pub bridge : p .bridge ≡ step w e .next .bridge
+  pub kept : memory ≡ step w e .next .memory
+  pub line : Put room at (line e (step w e)) now (p .next)
+  pub fits : p .next ≤ length room
+
+-- a run that has ended, and what a head leaves of one that may go on
+abbrev pub ended : Bool → World → Run
+ended torn w = record { events = []; lines = []; used = 0; torn = torn; world = w }
+
+abbrev pub remains : Head → World → Run → Run
+remains Whole w r = r
+remains Torn w r = ended true w
+remains Part w r = ended false w
+
+-- events, their lines and the bytes that they fill, and then a run
+abbrev pub before : List Event → List ℕ → ℕ → Run → Run
+before es lines used r =
+    record { events = es ++ r .events; lines = lines ++ r .lines; used = used + r .used; torn = r .torn; world = r .world }
+
+-- the first record of the block s was taken, or why it was not
+pub record Turns (last : Bool) (w : World) (s room : List ℕ) (at : ℕ) (t : Turned) (memory now : List ℕ) : Type 0 where
+  pub events : List Event
+  pub printed : List ℕ
+  pub stored : Put room at printed now (t .next)
+  pub fits : t .next ≤ length room
+  pub inside : t .used ≤ length s
+  pub same : (r : Run) → turnIn (length room - at) last w s r ≡ before events printed (t .used) (remains (t .head) (world (t .bridge) memory) r)
+  pub onward : t .head ≡ Whole
+      → (printed ≡ line (eventIn s) (step w (eventIn s))) × (t .used ≡ 4 + lengthOf s) × (world (t .bridge) memory ≡ step w (eventIn s) .next)
+
+-- ---- which head
+
+abbrev pub isWhole : Head → Bool
+isWhole Whole = true
+isWhole Torn = false
+isWhole Part = false
+
+abbrev pub isTorn : Head → Bool
+isTorn Whole = false
+isTorn Torn = true
+isTorn Part = false

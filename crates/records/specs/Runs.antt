@@ -1,0 +1,88 @@
+-- Runs: what the bench does with a block of input.
+use Prim.Native.Nat.{ℕ, zero, suc, _+_, _-_}
+use mathlib.Core.Path.{_≡_}
+use mathlib.Core.Bool.{Bool, true, false, cond}
+use mathlib.Core.List.{List, [], _∷_, _++_}
+use lib.ListN.{length, drop}
+use lib.Dec.{ltb}
+use Rattle.rules.specs.declared.Bridge.{Bridge}
+use Rattle.rules.specs.Words.{laid}
+use Rattle.rules.specs.Held.{World}
+use Rattle.rules.specs.Step.{Event, step}
+use Rattle.records.specs.declared.Head.{Head}
+use Rattle.records.specs.declared.Head.the-variants.{Whole, Torn, Part}
+use Rattle.records.specs.declared.Ran.{Ran}
+use Rattle.records.specs.Records.{lengthOf, kindOf, payloadOf, eventOf, headOf}
+use Rattle.records.specs.Lines.{line, tornLine, lineMost}
+
+-- what was taken of the stream: the events, the lines that they print, the bytes that they fill, and whether a torn record ended it
+pub record Run : Type 0 where
+  pub events : List Event
+  pub lines : List ℕ
+  pub used : ℕ
+  pub torn : Bool
+  pub world : World
+
+abbrev pub rests : World → Run
+rests w = record { events = []; lines = []; used = 0; torn = false; world = w }
+
+-- "prints `torn` and ends"
+abbrev pub tears : World → Run
+tears w = record { events = []; lines = tornLine; used = 0; torn = true; world = w }
+
+abbrev pub eventIn : List ℕ → Event
+eventIn s = eventOf (kindOf s) (payloadOf s)
+
+-- an event, and then the rest
+abbrev pub goesOn : World → List ℕ → Run → Run
+goesOn w s r =
+    record {
+      events = eventIn s ∷ r .events;
+      lines = line (eventIn s) (step w (eventIn s)) ++ r .lines;
+      used = 4 + lengthOf s + r .used;
+      torn = r .torn;
+      world = r .world;
+    }
+
+abbrev pub turn : Head → World → List ℕ → Run → Run
+turn Whole w s r = goesOn w s r
+turn Torn w s r = tears w
+turn Part w s r = rests w
+
+-- a turn needs room for the longest line
+abbrev pub turnIn : ℕ → Bool → World → List ℕ → Run → Run
+turnIn room last w s r = cond (ltb room lineMost) (rests w) (turn (headOf last s) w s r)
+
+-- at most n whole records from the front of a stream
+abbrev pub run : ℕ → Bool → ℕ → World → List ℕ → Run
+run zero last room w s = rests w
+run (suc n) last room w s =
+    let e : Event = eventIn s in
+    turnIn room last w s (run n last (room - length (line e (step w e))) (step w e .next) (drop (4 + lengthOf s) s))
+
+-- everything that a call leaves. A block has no more records than bytes.
+pub record Left : Type 0 where
+  pub bridge : Bridge
+  pub used : ℕ
+  pub written : ℕ
+  pub torn : Bool
+  pub memory : List ℕ
+  pub output : List ℕ
+
+abbrev pub left : Ran → List ℕ → List ℕ → Left
+left r memory output =
+    record { bridge = r .bridge; used = r .used; written = r .written; torn = r .torn; memory = memory; output = output }
+
+abbrev pub leftBy : Run → List ℕ → Left
+leftBy r output =
+    record {
+      bridge = r .world .bridge;
+      used = r .used;
+      written = length (r .lines);
+      torn = r .torn;
+      memory = r .world .memory;
+      output = laid (r .lines) output;
+    }
+
+abbrev pub leaves : Bool → World → List ℕ → List ℕ → Left
+leaves last w s output = leftBy (run (length s) last (length output) w s) output
