@@ -3,3 +3,5 @@ mod Printing
 mod Rows
 mod Running
 mod Turning
+pub mod AsTheRules
+pub mod Unique

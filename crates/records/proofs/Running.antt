@@ -1,7 +1,7 @@
 -- The loop of `run`: what was taken so far, and the run that is left.
 use mathlib.Core.Path.{_≡_, refl, sym, ap, _∙_}
 use mathlib.Core.Bool.{Bool, true, false, _&&_, true≢false, and-eq-true-iff}
-use mathlib.Core.List.{List, [], _∷_, _++_, append-assoc, append-nil}
+use mathlib.Core.List.{List, [], _++_, append-assoc, append-nil}
 use Prim.Native.Nat.{ℕ, zero, suc, _+_, _-_, _≤_}
 use native.Mathlib.Nat.{zero-add, add-zero, add-assoc}
 use native.Mathlib.Omega.{arith}
@@ -16,7 +16,6 @@ use Rattle.lent.specs.Rows.{Put}
 use Rattle.lent.proofs.Rows.{put-none, put-length, put-put, put-laid}
 use Rattle.records.specs.declared.Head.{Head}
 use Rattle.records.specs.declared.Head.the-variants.{Whole, Torn, Part}
-use Rattle.records.specs.declared.Ran.{Ran}
 use Rattle.records.specs.declared.Turned.{Turned}
 use Rattle.records.specs.Records.{lengthOf}
 use Rattle.records.specs.Lines.{line}

@@ -1,5 +1,5 @@
 -- Runs: what the bench does with a block of input.
-use Prim.Native.Nat.{ℕ, zero, suc, _+_, _-_}
+use Prim.Native.Nat.{ℕ, zero, suc, _+_, _-_, _≤_}
 use mathlib.Core.Path.{_≡_}
 use mathlib.Core.Bool.{Bool, true, false, cond}
 use mathlib.Core.List.{List, [], _∷_, _++_}
@@ -8,7 +8,7 @@ use lib.Dec.{ltb}
 use Rattle.rules.specs.declared.Bridge.{Bridge}
 use Rattle.rules.specs.Words.{laid}
 use Rattle.rules.specs.Held.{World}
-use Rattle.rules.specs.Step.{Event, step}
+use Rattle.rules.specs.Step.{Event, step, after}
 use Rattle.records.specs.declared.Head.{Head}
 use Rattle.records.specs.declared.Head.the-variants.{Whole, Torn, Part}
 use Rattle.records.specs.declared.Ran.{Ran}
@@ -86,3 +86,21 @@ leftBy r output =
 
 abbrev pub leaves : Bool → World → List ℕ → List ℕ → Left
 leaves last w s output = leftBy (run (length s) last (length output) w s) output
+
+-- ---- what holds of runs, proved in proofs/AsTheRules
+
+abbrev pub printed : World → List Event → List ℕ
+printed w [] = []
+printed w (e ∷ es) = line e (step w e) ++ printed (step w e .next) es
+
+-- a run is the rules' own: the world is the one after its events, and the lines are theirs, with `torn` behind them where it ended so
+abbrev pub RunsAreTheRules : Type 0
+RunsAreTheRules = (n : ℕ) (last : Bool) (room : ℕ) (w : World) (s : List ℕ)
+    → (let r : Run = run n last room w s in
+    (r .world ≡ after step w (r .events)) × (r .lines ≡ printed w (r .events) ++ cond (r .torn) tornLine []))
+
+-- and it leaves no record behind that is whole: what is left begins with a part, unless the room ran out or the stream is torn
+abbrev pub NothingIsLeft : Type 0
+NothingIsLeft = (last : Bool) (room : ℕ) (w : World) (s : List ℕ)
+    → (let r : Run = run (length s) last room w s in
+    r .torn ≡ false → lineMost ≤ room - length (r .lines) → headOf last (drop (r .used) s) ≡ Part)
