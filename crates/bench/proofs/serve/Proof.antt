@@ -23,13 +23,24 @@ turned-requires : tie.Need-turned-requires Inv-loop μ-loop
 turned-requires c κs = c .before .before .before .before .before .loop .inv .0
 
 sub-turns : tie.Need-sub-turns Inv-loop μ-loop
-sub-turns c = counts-down (c .before .before .before .before .before .before .before .before .before .before .before .before .loop .s .going) (c .before .before .before .before .before .before .before .before .before .before .before .before .loop .turns) (c .before .before .before .before .before .before .before .before .before .before .if1 .taken)
+sub-turns c =
+    let loop = c .before .before .before .before .before .before .before .before .before .before .before .before .loop in
+    let if1 = c .before .before .before .before .before .before .before .before .before .before .if1 in
+    counts-down (loop .s .going) (loop .turns) (if1 .taken)
 
 loop-less : tie.Need-loop-less Inv-loop μ-loop
-loop-less c = omega (arith, counts-down (c .before .before .before .before .before .before .before .before .before .before .before .before .loop .s .going) (c .before .before .before .before .before .before .before .before .before .before .before .before .loop .turns) (c .before .before .before .before .before .before .before .before .before .before .if1 .taken))
+loop-less c =
+    let loop = c .before .before .before .before .before .before .before .before .before .before .before .before .loop in
+    let if1 = c .before .before .before .before .before .before .before .before .before .before .if1 in
+    omega (arith, counts-down (loop .s .going) (loop .turns) (if1 .taken))
 
 loop-again : tie.Need-loop-again Inv-loop μ-loop
-loop-again c = (c .before .before .before .before .before .before .turned .ensures, c .before .before .before .before .before .input .given ∙ c .before .before .before .before .before .before .before .before .before .before .before .before .loop .inv .1, c .before .before .before .memory .given ∙ c .before .before .before .before .before .before .before .before .before .before .before .before .loop .inv .2, c .before .output .given ∙ c .before .before .before .before .before .before .before .before .before .before .before .before .loop .inv .3)
+loop-again c =
+    let loop = c .before .before .before .before .before .before .before .before .before .before .before .before .loop in
+    let turned = c .before .before .before .before .before .before .turned in
+    let input = c .before .before .before .before .before .input in
+    let memory = c .before .before .before .memory in
+    (turned .ensures, input .given ∙ loop .inv .1, memory .given ∙ loop .inv .2, c .before .output .given ∙ loop .inv .3)
 
 same-length : tie.Need-same-length Inv-loop μ-loop
 same-length c = c .before .before .loop .inv .1

@@ -44,16 +44,22 @@ same-length c = search needs
 
 returns : tie.Need-returns
 returns c =
-    let at = c .before .before .before .before .before .before .before .before .before .before .before .args in
-    rw (c .before .before .before .before .before .if1 .taken) (c .before .before .copy .ensures ∙ part-read (at .memory .now) (at .reply .now) (at .s .index) (at .s .length) (rw (c .before .before .before .before .before .if1 .taken) at (c .before .before .before .before .before .before .before .before .before .before .before .pre .0)) (c .before .before .before .before .before .before .before .before .before .before .before .pre .1))
+    let start = c .before .before .before .before .before .before .before .before .before .before .before in
+    let if1 = c .before .before .before .before .before .if1 in
+    let copy = c .before .before .copy in
+    let at = start .args in
+    rw (if1 .taken) (copy .ensures ∙ part-read (at .memory .now) (at .reply .now) (at .s .index) (at .s .length) (rw (if1 .taken) at (start .pre .0)) (start .pre .1))
 
 same-length-2 : tie.Need-same-length-2
 same-length-2 c = search needs
 
 returns-2 : tie.Need-returns-2
 returns-2 c =
-    let at = c .before .before .before .before .before .before .before .before .before .before .before .before .before .args in
-    rw (ne-eqb _ _ (c .before .before .before .before .before .before .before .if1 .left)) (c .before .before .copy2 .ensures ∙ part-read (at .b .bytes) (at .reply .now) (at .s .index) (at .s .length) (rw (ne-eqb (at .s .value) 2 (c .before .before .before .before .before .before .before .if1 .left)) at (c .before .before .before .before .before .before .before .before .before .before .before .before .before .pre .0)) (c .before .before .before .before .before .before .before .before .before .before .before .before .before .pre .1))
+    let start = c .before .before .before .before .before .before .before .before .before .before .before .before .before in
+    let if1 = c .before .before .before .before .before .before .before .if1 in
+    let copy2 = c .before .before .copy2 in
+    let at = start .args in
+    rw (ne-eqb _ _ (if1 .left)) (copy2 .ensures ∙ part-read (at .b .bytes) (at .reply .now) (at .s .index) (at .s .length) (rw (ne-eqb (at .s .value) 2 (if1 .left)) at (start .pre .0)) (start .pre .1))
 
 pub read-spec : {M : Type 1} → statement M
 read-spec =

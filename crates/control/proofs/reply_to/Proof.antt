@@ -63,8 +63,9 @@ enum-told-4 c = search needs
 
 read-requires : tie.Need-read-requires
 read-requires c κs =
-    let inside = (c .before .before .before .before .before .pre .reads (c .before .enum-told4 .given .1)) in
-    (inside, rw (c .before .enum-told4 .given .1, part-length (storeOf (c .before .before .before .before .before .args .s .value) (world (c .before .before .before .before .before .args .b) (c .before .before .before .before .before .args .memory .now))) (c .before .before .before .before .before .args .s .index) (c .before .before .before .before .before .args .s .length) inside) at (c .before .before .before .before .before .pre .fits))
+    let start = c .before .before .before .before .before in
+    let inside = (start .pre .reads (c .before .enum-told4 .given .1)) in
+    (inside, rw (c .before .enum-told4 .given .1, part-length (storeOf (start .args .s .value) (world (start .args .b) (start .args .memory .now))) (start .args .s .index) (start .args .s .length) inside) at (start .pre .fits))
 
 enum-told-5 : tie.Need-enum-told-5
 enum-told-5 c = search needs
@@ -98,8 +99,11 @@ same-length-4 c = search needs
 
 returns-4 : tie.Need-returns-4
 returns-4 c =
-    let at = c .before .before .before .before .before .before .before .before .args in
-    rw (c .before .before .before .before .enum-told4 .given .1) (sym (part-length (storeOf (at .s .value) (world (at .b) (at .memory .now))) (at .s .index) (at .s .length) (c .before .before .before .before .before .before .before .before .pre .reads (c .before .before .before .before .enum-told4 .given .1))), c .before .before .read .ensures)
+    let start = c .before .before .before .before .before .before .before .before in
+    let enum-told4 = c .before .before .before .before .enum-told4 in
+    let read = c .before .before .read in
+    let at = start .args in
+    rw (enum-told4 .given .1) (sym (part-length (storeOf (at .s .value) (world (at .b) (at .memory .now))) (at .s .index) (at .s .length) (start .pre .reads (enum-told4 .given .1))), read .ensures)
 
 same-length-5 : tie.Need-same-length-5
 same-length-5 c = search needs

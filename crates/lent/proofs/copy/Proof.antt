@@ -22,16 +22,20 @@ same-length c = search needs
 
 returns : tie.Need-returns
 returns c =
-    let room : length (c .before .before .before .before .before .before .before .before .args .src .now) ≡ min (length (c .before .before .before .before .before .before .before .before .args .src .now)) (length (c .before .before .before .before .before .before .before .before .args .dst .now) - c .before .before .before .before .before .before .before .before .args .at) = omega arith in
-    c .before .before .copy-all .ensures ∙ ap (paste (c .before .before .before .before .before .before .before .before .args .dst .now) (c .before .before .before .before .before .before .before .before .args .at) (c .before .before .before .before .before .before .before .before .args .src .now)) room
+    let start = c .before .before .before .before .before .before .before .before in
+    let copy-all = c .before .before .copy-all in
+    let room : length (start .args .src .now) ≡ min (length (start .args .src .now)) (length (start .args .dst .now) - start .args .at) = omega arith in
+    copy-all .ensures ∙ ap (paste (start .args .dst .now) (start .args .at) (start .args .src .now)) room
 
 same-length-2 : tie.Need-same-length-2
 same-length-2 c = search needs
 
 returns-2 : tie.Need-returns-2
 returns-2 c =
-    let room : length (c .before .before .before .before .before .before .before .before .args .dst .now) - c .before .before .before .before .before .before .before .before .args .at ≡ min (length (c .before .before .before .before .before .before .before .before .args .src .now)) (length (c .before .before .before .before .before .before .before .before .args .dst .now) - c .before .before .before .before .before .before .before .before .args .at) = omega arith in
-    c .before .before .copy-all2 .ensures ∙ ap (paste (c .before .before .before .before .before .before .before .before .args .dst .now) (c .before .before .before .before .before .before .before .before .args .at) (c .before .before .before .before .before .before .before .before .args .src .now)) room
+    let start = c .before .before .before .before .before .before .before .before in
+    let copy-all2 = c .before .before .copy-all2 in
+    let room : length (start .args .dst .now) - start .args .at ≡ min (length (start .args .src .now)) (length (start .args .dst .now) - start .args .at) = omega arith in
+    copy-all2 .ensures ∙ ap (paste (start .args .dst .now) (start .args .at) (start .args .src .now)) room
 
 returns-3 : tie.Need-returns-3
 returns-3 c =

@@ -27,9 +27,13 @@ stopped-requires-2 c κs = search needs
 
 returns-2 : tie.Need-returns-2
 returns-2 c =
+    let is-valid = c .before .before .before .before .before .is-valid in
+    let if1 = c .before .before .before .before .if1 in
+    let command-of = c .before .before .before .command-of in
+    let is-meaningful = c .before .before .is-meaningful in
     let start = c .before .before .before .before .before .before .before .before in
     rw (c .stopped2 .ensures)
-    (not-meaningful (start .args .b) (start .args .packet .now) (start .args .operations .now) (start .pre) (c .before .before .before .before .before .is-valid .ensures) (c .before .before .before .before .if1 .left) (c .before .before .before .command-of .ensures) (c .before .before .is-meaningful .ensures) (c .before .if2 .taken))
+    (not-meaningful (start .args .b) (start .args .packet .now) (start .args .operations .now) (start .pre) (is-valid .ensures) (if1 .left) (command-of .ensures) (is-meaningful .ensures) (c .before .if2 .taken))
 
 sub-judge : tie.Need-sub-judge
 sub-judge c = search needs
@@ -57,11 +61,18 @@ same-length c = search needs
 
 returns-3 : tie.Need-returns-3
 returns-3 c =
+    let is-valid = c .before .before .before .before .before .before .before .before .before .before .before .before .is-valid in
+    let if1 = c .before .before .before .before .before .before .before .before .before .before .before .if1 in
+    let command-of = c .before .before .before .before .before .before .before .before .before .before .command-of in
+    let is-meaningful = c .before .before .before .before .before .before .before .before .before .is-meaningful in
+    let if2 = c .before .before .before .before .before .before .before .before .if2 in
+    let direction-of = c .before .before .before .before .before .direction-of in
+    let judge = c .before .before .before .judge in
     let start = c .before .before .before .before .before .before .before .before .before .before .before .before .before .before .before in
     let p = start .args .packet .now in
-    let part = block-part p (thirty-one p (c .before .before .before .before .before .before .before .before .before .before .before .before .is-valid .ensures) (c .before .before .before .before .before .before .before .before .before .before .before .if1 .left)) in
+    let part = block-part p (thirty-one p (is-valid .ensures) (if1 .left)) in
     rw (c .taken .ensures)
-    (taken-so (start .args .b) p (start .args .operations .now) (start .pre) (c .before .before .before .before .before .before .before .before .before .before .before .before .is-valid .ensures) (c .before .before .before .before .before .before .before .before .before .before .before .if1 .left) (c .before .before .before .before .before .before .before .before .before .before .command-of .ensures) (c .before .before .before .before .before .before .before .before .before .is-meaningful .ensures) (c .before .before .before .before .before .before .before .before .if2 .left) part (c .before .before .before .before .before .direction-of .ensures) (c .before .before .before .judge .ensures))
+    (taken-so (start .args .b) p (start .args .operations .now) (start .pre) (is-valid .ensures) (if1 .left) (command-of .ensures) (is-meaningful .ensures) (if2 .left) part (direction-of .ensures) (judge .ensures))
 
 pub awaited-spec : {M : Type 1} → statement M
 awaited-spec =

@@ -38,8 +38,15 @@ same-length c = search needs
 
 returns-4 : tie.Need-returns-4
 returns-4 c =
-    let at = c .before .before .before .before .before .before .before .before .before .before .before .args in
-    rw (c .before .before .make .ensures) (all-made (at .signature) (at .block .now) (at .size) (at .expected) (at .direction) (at .operations .now) (c .before .before .before .before .before .before .before .before .if1 .left) (c .before .before .before .before .before .before .before .is-recognised .ensures) (c .before .before .before .before .before .before .if2 .left) (c .before .before .before .before .before .count .ensures (at .direction)) (c .before .before .before .before .if3 .left))
+    let start = c .before .before .before .before .before .before .before .before .before .before .before in
+    let if1 = c .before .before .before .before .before .before .before .before .if1 in
+    let is-recognised = c .before .before .before .before .before .before .before .is-recognised in
+    let if2 = c .before .before .before .before .before .before .if2 in
+    let count = c .before .before .before .before .before .count in
+    let if3 = c .before .before .before .before .if3 in
+    let make = c .before .before .make in
+    let at = start .args in
+    rw (make .ensures) (all-made (at .signature) (at .block .now) (at .size) (at .expected) (at .direction) (at .operations .now) (if1 .left) (is-recognised .ensures) (if2 .left) (count .ensures (at .direction)) (if3 .left))
 
 pub judge-spec : {M : Type 1} → statement M
 judge-spec =

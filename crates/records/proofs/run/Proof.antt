@@ -45,18 +45,36 @@ turn-requires c κs =
 
 add-used : tie.Need-add-used Inv-loop μ-loop
 add-used c =
+    let loop = c .before .before .before .before .before .before .before .before .before .before .before .before .before .before .loop in
+    let is-whole = c .before .before .before .before .before .before .before .before .before .before .before .before .before .is-whole in
+    let turn = c .before .before .before .before .before .before .before .turn in
     let start = c .before .before .before .before .before .before .before .before .before .before .before .before .before .before .before .before .before .before in
-    let inside : c .before .before .before .before .before .before .before .before .before .before .before .before .before .before .loop .used + c .before .before .before .before .before .before .before .turn .result .used ≤ length (start .args .input .now) = used-inside _ _ _ _ (c .before .before .before .before .before .before .before .before .before .before .before .before .before .before .loop .inv .0) (c .before .before .before .before .before .before .before .before .before .before .before .before .before .is-whole .ensures) (c .before .before .before .before .before .before .before .turn .ensures) in
+    let inside : loop .used + turn .result .used ≤ length (start .args .input .now) = used-inside _ _ _ _ (loop .inv .0) (is-whole .ensures) (turn .ensures) in
     omega (arith, inside)
 
 sub-records : tie.Need-sub-records Inv-loop μ-loop
-sub-records c = counts-down (c .before .before .before .before .before .before .before .before .before .before .before .before .before .is-whole .result) (c .before .before .before .before .before .before .before .before .before .before .before .before .before .before .loop .records) (c .before .before .before .before .before .before .before .before .before .before .before .before .if1 .taken)
+sub-records c =
+    let loop = c .before .before .before .before .before .before .before .before .before .before .before .before .before .before .loop in
+    let is-whole = c .before .before .before .before .before .before .before .before .before .before .before .before .before .is-whole in
+    let if1 = c .before .before .before .before .before .before .before .before .before .before .before .before .if1 in
+    counts-down (is-whole .result) (loop .records) (if1 .taken)
 
 loop-less : tie.Need-loop-less Inv-loop μ-loop
-loop-less c = omega (arith, counts-down (c .before .before .before .before .before .before .before .before .before .before .before .before .before .is-whole .result) (c .before .before .before .before .before .before .before .before .before .before .before .before .before .before .loop .records) (c .before .before .before .before .before .before .before .before .before .before .before .before .if1 .taken))
+loop-less c =
+    let loop = c .before .before .before .before .before .before .before .before .before .before .before .before .before .before .loop in
+    let is-whole = c .before .before .before .before .before .before .before .before .before .before .before .before .before .is-whole in
+    let if1 = c .before .before .before .before .before .before .before .before .before .before .before .before .if1 in
+    omega (arith, counts-down (is-whole .result) (loop .records) (if1 .taken))
 
 loop-again : tie.Need-loop-again Inv-loop μ-loop
-loop-again c = (turns-on _ _ _ _ (c .before .before .before .before .before .before .before .before .before .before .before .before .before .before .loop .inv .0) (c .before .before .before .before .before .before .before .before .before .before .before .before .before .is-whole .ensures) (c .before .before .before .before .before .before .before .before .before .before .before .before .if1 .taken) (c .before .before .before .before .before .before .before .turn .ensures), c .before .before .before .before .before .before .memory .given ∙ c .before .before .before .before .before .before .before .before .before .before .before .before .before .before .loop .inv .1, c .before .before .before .before .reply2 .given)
+loop-again c =
+    let loop = c .before .before .before .before .before .before .before .before .before .before .before .before .before .before .loop in
+    let is-whole = c .before .before .before .before .before .before .before .before .before .before .before .before .before .is-whole in
+    let if1 = c .before .before .before .before .before .before .before .before .before .before .before .before .if1 in
+    let turn = c .before .before .before .before .before .before .before .turn in
+    let memory = c .before .before .before .before .before .before .memory in
+    let reply2 = c .before .before .before .before .reply2 in
+    (turns-on _ _ _ _ (loop .inv .0) (is-whole .ensures) (if1 .taken) (turn .ensures), memory .given ∙ loop .inv .1, reply2 .given)
 
 is-torn-requires : tie.Need-is-torn-requires Inv-loop μ-loop
 is-torn-requires c κs = tt

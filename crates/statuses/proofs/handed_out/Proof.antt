@@ -39,9 +39,13 @@ same-length c = search needs
 returns-2 : tie.Need-returns-2
 unfolding statusAnswer
 returns-2 c =
-    let fits : length (c .before .before .before .before .before .before .packet-of .result) ≤ length (c .before .before .before .before .before .before .before .before .before .args .reply .now) = rw (c .before .before .before .before .before .before .packet-of .ensures) (omega arith) in
-    rw (c .in-phase .ensures, c .before .before .before .copy .ensures ∙ to-front (c .before .before .before .before .before .before .before .before .before .args .reply .now) (c .before .before .before .before .before .before .packet-of .result) fits, c .before .before .before .before .before .before .packet-of .ensures)
-    (status-done (c .before .before .before .before .before .before .before .before .before .args .b) (c .before .before .before .before .before .before .before .before .before .args .reply .now) _ _ _ (c .before .before .before .before .before .before .before .before .before .pre .waits) (rw (c .before .before .before .before .before .before .before .before .before .pre .configured, c .before .before .before .before .before .before .before .before .before .pre .waits, c .before .before .before .before .before .before .before .before .before .pre .runs, le-ltb _ _ (c .before .before .before .before .before .before .before .if1 .left))))
+    let start = c .before .before .before .before .before .before .before .before .before in
+    let if1 = c .before .before .before .before .before .before .before .if1 in
+    let packet-of = c .before .before .before .before .before .before .packet-of in
+    let copy = c .before .before .before .copy in
+    let fits : length (packet-of .result) ≤ length (start .args .reply .now) = rw (packet-of .ensures) (omega arith) in
+    rw (c .in-phase .ensures, copy .ensures ∙ to-front (start .args .reply .now) (packet-of .result) fits, packet-of .ensures)
+    (status-done (start .args .b) (start .args .reply .now) _ _ _ (start .pre .waits) (rw (start .pre .configured, start .pre .waits, start .pre .runs, le-ltb _ _ (if1 .left))))
 
 pub handed-out-spec : {M : Type 1} → statement M
 handed-out-spec =

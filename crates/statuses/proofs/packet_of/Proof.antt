@@ -46,7 +46,14 @@ array-write-packet : tie.Need-array-write-packet
 array-write-packet c = search needs
 
 returns : tie.Need-returns
-returns c = rw (c .before .before .copy3 .ensures, c .before .before .before .before .bytes-of3 .ensures, c .before .before .before .before .before .before .before .copy2 .ensures, c .before .before .before .before .before .before .before .before .before .bytes-of2 .ensures, c .before .before .before .before .before .before .before .before .before .before .before .before .copy .ensures, c .before .before .before .before .before .before .before .before .before .before .before .before .before .before .bytes-of .ensures, c .number .ensures)
+returns c =
+    let bytes-of = c .before .before .before .before .before .before .before .before .before .before .before .before .before .before .bytes-of in
+    let copy = c .before .before .before .before .before .before .before .before .before .before .before .before .copy in
+    let bytes-of2 = c .before .before .before .before .before .before .before .before .before .bytes-of2 in
+    let copy2 = c .before .before .before .before .before .before .before .copy2 in
+    let bytes-of3 = c .before .before .before .before .bytes-of3 in
+    let copy3 = c .before .before .copy3 in
+    rw (copy3 .ensures, bytes-of3 .ensures, copy2 .ensures, bytes-of2 .ensures, copy .ensures, bytes-of .ensures, c .number .ensures)
 
 pub packet-of-spec : {M : Type 1} → statement M
 packet-of-spec =

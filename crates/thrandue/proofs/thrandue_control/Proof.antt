@@ -33,8 +33,13 @@ same-length-3 c = search needs
 
 returns-2 : tie.Need-returns-2
 returns-2 c =
-    let at = c .before .before .before .before .before .before .before .before .before .before .before .before .before .before .before .before .before .before .before .args in
-    image-left (at .image .now) (at .memory .now) (Control (at .setup .now) (at .host .now)) (at .reply .now) (c .before .before .before .before .before .before .before .control .result) (c .before .before .before .before .before .before .before .before .before .before .before .before .before .if1 .left) (c .before .before .before .before .before .before .before .before .before .before .before .load .ensures) (c .before .before .before .before .before .before .before .control .ensures) (c .before .before .leave .ensures)
+    let start = c .before .before .before .before .before .before .before .before .before .before .before .before .before .before .before .before .before .before .before in
+    let if1 = c .before .before .before .before .before .before .before .before .before .before .before .before .before .if1 in
+    let load = c .before .before .before .before .before .before .before .before .before .before .before .load in
+    let control = c .before .before .before .before .before .before .before .control in
+    let leave = c .before .before .leave in
+    let at = start .args in
+    image-left (at .image .now) (at .memory .now) (Control (at .setup .now) (at .host .now)) (at .reply .now) (control .result) (if1 .left) (load .ensures) (control .ensures) (leave .ensures)
 
 pub thrandue-control-spec : {M : Type 1} → statement M
 thrandue-control-spec =

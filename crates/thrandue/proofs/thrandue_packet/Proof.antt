@@ -30,8 +30,13 @@ same-length-2 c = search needs
 
 returns-2 : tie.Need-returns-2
 returns-2 c =
-    let at = c .before .before .before .before .before .before .before .before .before .before .before .before .before .before .args in
-    λ m. image-left (at .image .now) m (Packet (at .packet .now)) (at .operations .now) (c .before .before .before .before .before .packet .result) (c .before .before .before .before .before .before .before .before .before .before .if1 .left) (c .before .before .before .before .before .before .before .before .load .ensures) (c .before .before .before .before .before .packet .ensures m) (c .before .before .leave .ensures)
+    let start = c .before .before .before .before .before .before .before .before .before .before .before .before .before .before in
+    let if1 = c .before .before .before .before .before .before .before .before .before .before .if1 in
+    let load = c .before .before .before .before .before .before .before .before .load in
+    let packet = c .before .before .before .before .before .packet in
+    let leave = c .before .before .leave in
+    let at = start .args in
+    λ m. image-left (at .image .now) m (Packet (at .packet .now)) (at .operations .now) (packet .result) (if1 .left) (load .ensures) (packet .ensures m) (leave .ensures)
 
 pub thrandue-packet-spec : {M : Type 1} → statement M
 thrandue-packet-spec =

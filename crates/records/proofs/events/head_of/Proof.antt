@@ -32,7 +32,12 @@ tears-requires : tie.Need-tears-requires
 tears-requires c κs = search needs
 
 returns-2 : tie.Need-returns-2
-returns-2 c = torn-head _ (c .before .before .before .before .before .before .before .before .before .before .args .input .now) (c .before .before .before .before .before .before .before .before .if1 .left) (c .before .before .before .before .before .word .ensures) (c .before .before .word2 .ensures) (c .before .tears .ensures) (c .if2 .taken)
+returns-2 c =
+    let start = c .before .before .before .before .before .before .before .before .before .before in
+    let if1 = c .before .before .before .before .before .before .before .before .if1 in
+    let word = c .before .before .before .before .before .word in
+    let word2 = c .before .before .word2 in
+    torn-head _ (start .args .input .now) (if1 .left) (word .ensures) (word2 .ensures) (c .before .tears .ensures) (c .if2 .taken)
 
 cast-if3 : tie.Need-cast-if3
 cast-if3 c = search needs
@@ -44,10 +49,23 @@ unfinished-requires-2 : tie.Need-unfinished-requires-2
 unfinished-requires-2 c κs = search needs
 
 returns-3 : tie.Need-returns-3
-returns-3 c = cut-head _ (c .before .before .before .before .before .before .before .before .before .before .before .before .args .input .now) (c .before .before .before .before .before .before .before .before .before .before .if1 .left) (c .before .before .before .before .before .before .before .word .ensures) (c .before .before .before .before .word2 .ensures) (c .before .before .before .tears .ensures) (c .before .before .if2 .left) (c .unfinished2 .ensures) (c .before .if3 .taken)
+returns-3 c =
+    let start = c .before .before .before .before .before .before .before .before .before .before .before .before in
+    let if1 = c .before .before .before .before .before .before .before .before .before .before .if1 in
+    let word = c .before .before .before .before .before .before .before .word in
+    let word2 = c .before .before .before .before .word2 in
+    let tears = c .before .before .before .tears in
+    let if2 = c .before .before .if2 in
+    cut-head _ (start .args .input .now) (if1 .left) (word .ensures) (word2 .ensures) (tears .ensures) (if2 .left) (c .unfinished2 .ensures) (c .before .if3 .taken)
 
 returns-4 : tie.Need-returns-4
-returns-4 c = whole-head _ (c .before .before .before .before .before .before .before .before .before .before .before .args .input .now) (c .before .before .before .before .before .before .before .before .before .if1 .left) (c .before .before .before .before .before .before .word .ensures) (c .before .before .before .word2 .ensures) (c .before .before .tears .ensures) (c .before .if2 .left) (c .if3 .left)
+returns-4 c =
+    let start = c .before .before .before .before .before .before .before .before .before .before .before in
+    let if1 = c .before .before .before .before .before .before .before .before .before .if1 in
+    let word = c .before .before .before .before .before .before .word in
+    let word2 = c .before .before .before .word2 in
+    let tears = c .before .before .tears in
+    whole-head _ (start .args .input .now) (if1 .left) (word .ensures) (word2 .ensures) (tears .ensures) (c .before .if2 .left) (c .if3 .left)
 
 pub head-of-spec : {M : Type 1} → statement M
 head-of-spec =

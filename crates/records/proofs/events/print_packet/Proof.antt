@@ -32,7 +32,11 @@ same-length c = search needs
 
 returns : tie.Need-returns
 unfolding eventOf
-returns c = λ m. prints (world (c .before .before .before .before .before .before .before .before .before .before .args .b) m) (Packet (c .before .before .before .before .before .before .before .before .before .before .args .payload .now)) (replicate 11 0) (c .before .before .before .before .before .before .packet .result) m _ (c .before .before .before .before .before .before .packet .ensures m) hexWord refl (c .before .before .print-words .ensures)
+returns c =
+    let start = c .before .before .before .before .before .before .before .before .before .before in
+    let packet = c .before .before .before .before .before .before .packet in
+    let print-words = c .before .before .print-words in
+    λ m. prints (world (start .args .b) m) (Packet (start .args .payload .now)) (replicate 11 0) (packet .result) m _ (packet .ensures m) hexWord refl (print-words .ensures)
 
 pub print-packet-spec : {M : Type 1} → statement M
 print-packet-spec =

@@ -52,8 +52,12 @@ same-length c = search needs
 returns : tie.Need-returns
 unfolding eventOf
 returns c =
-    let p = c .before .before .before .before .before .before .before .before .before .before .before .before .before .before .before .args .payload .now in
-    λ m. prints (world (c .before .before .before .before .before .before .before .before .before .before .before .before .before .before .before .args .b) m) (λ n. Report (byte 0 p) (byte 1 p) (long 2 p)) [] (c .before .before .before .before .before .report .result) m [] (rw (← c .before .before .before .before .before .before .before .before .long .ensures) (c .before .before .before .before .before .report .ensures m)) hexByte refl (c .before .before .print-bytes .ensures)
+    let start = c .before .before .before .before .before .before .before .before .before .before .before .before .before .before .before in
+    let the-long = c .before .before .before .before .before .before .before .before .long in
+    let report = c .before .before .before .before .before .report in
+    let print-bytes = c .before .before .print-bytes in
+    let p = start .args .payload .now in
+    λ m. prints (world (start .args .b) m) (λ n. Report (byte 0 p) (byte 1 p) (long 2 p)) [] (report .result) m [] (rw (← the-long .ensures) (report .ensures m)) hexByte refl (print-bytes .ensures)
 
 pub print-report-spec : {M : Type 1} → statement M
 print-report-spec =

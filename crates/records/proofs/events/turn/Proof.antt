@@ -36,10 +36,18 @@ add-n : tie.Need-add-n
 add-n c = search needs
 
 shared-slice-read-word-3 : tie.Need-shared-slice-read-word-3
-shared-slice-read-word-3 c = omega (arith, whole-facts (c .before .before .before .before .before .before .before .before .before .before .before .before .args .last) (c .before .before .before .before .before .before .before .before .before .before .before .before .args .input .now) (c .before .before .before .before .before .before .head-of .ensures) (c .before .before .before .before .enum-told .given .1) .0)
+shared-slice-read-word-3 c =
+    let start = c .before .before .before .before .before .before .before .before .before .before .before .before in
+    let head-of = c .before .before .before .before .before .before .head-of in
+    let enum-told = c .before .before .before .before .enum-told in
+    omega (arith, whole-facts (start .args .last) (start .args .input .now) (head-of .ensures) (enum-told .given .1) .0)
 
 shared-slice-read-word-4 : tie.Need-shared-slice-read-word-4
-shared-slice-read-word-4 c = omega (arith, whole-facts (c .before .before .before .before .before .before .before .before .before .before .before .before .before .args .last) (c .before .before .before .before .before .before .before .before .before .before .before .before .before .args .input .now) (c .before .before .before .before .before .before .before .head-of .ensures) (c .before .before .before .before .before .enum-told .given .1) .0)
+shared-slice-read-word-4 c =
+    let start = c .before .before .before .before .before .before .before .before .before .before .before .before .before in
+    let head-of = c .before .before .before .before .before .before .before .head-of in
+    let enum-told = c .before .before .before .before .before .enum-told in
+    omega (arith, whole-facts (start .args .last) (start .args .input .now) (head-of .ensures) (enum-told .given .1) .0)
 
 word-requires-2 : tie.Need-word-requires-2
 word-requires-2 c κs = search needs
@@ -51,12 +59,23 @@ part-print-event-start : tie.Need-part-print-event-start
 part-print-event-start c = search needs
 
 part-print-event-end : tie.Need-part-print-event-end
-part-print-event-end c = ends-inside (c .before .before .before .before .before .before .before .before .before .before .before .before .before .before .args .last) (c .before .before .before .before .before .before .before .before .before .before .before .before .before .before .args .b) (c .before .before .before .before .before .before .before .before .before .before .before .before .before .before .args .memory .now) (c .before .before .before .before .before .before .before .before .before .before .before .before .before .before .args .input .now) (c .before .before .before .before .before .before .before .before .before .before .before .before .before .before .args .output .now) (c .before .before .before .before .before .before .before .before .before .before .before .before .before .before .args .at) (c .before .before .before .before .before .before .before .before .before .before .before .before .before .before .pre .1) (c .before .before .before .before .before .before .before .before .before .if1 .left) (c .before .before .before .before .before .before .before .before .head-of .ensures) (c .before .before .before .before .before .before .enum-told .given .1) (c .before .before .before .word .ensures) (c .word2 .ensures)
+part-print-event-end c =
+    let start = c .before .before .before .before .before .before .before .before .before .before .before .before .before .before in
+    let if1 = c .before .before .before .before .before .before .before .before .before .if1 in
+    let head-of = c .before .before .before .before .before .before .before .before .head-of in
+    let enum-told = c .before .before .before .before .before .before .enum-told in
+    let word = c .before .before .before .word in
+    ends-inside (start .args .last) (start .args .b) (start .args .memory .now) (start .args .input .now) (start .args .output .now) (start .args .at) (start .pre .1) (if1 .left) (head-of .ensures) (enum-told .given .1) (word .ensures) (c .word2 .ensures)
 
 print-event-requires : tie.Need-print-event-requires
 print-event-requires c κs =
+    let if1 = c .before .before .before .before .before .before .before .before .before .before .before .before .before .if1 in
+    let head-of = c .before .before .before .before .before .before .before .before .before .before .before .before .head-of in
+    let enum-told = c .before .before .before .before .before .before .before .before .before .before .enum-told in
+    let word = c .before .before .before .before .before .before .before .word in
+    let word2 = c .before .before .before .before .word2 in
     let start = c .before .before .before .before .before .before .before .before .before .before .before .before .before .before .before .before .before .before in
-    (not-torn (start .args .last) (start .args .b) (start .args .memory .now) (start .args .input .now) (start .args .output .now) (start .args .at) (start .pre .1) (c .before .before .before .before .before .before .before .before .before .before .before .before .before .if1 .left) (c .before .before .before .before .before .before .before .before .before .before .before .before .head-of .ensures) (c .before .before .before .before .before .before .before .before .before .before .enum-told .given .1) (c .before .before .before .before .before .before .before .word .ensures) (c .before .before .before .before .word2 .ensures), start .pre .0, omega (arith, c .before .before .before .before .before .before .before .before .before .before .before .before .before .if1 .left, start .pre .1))
+    (not-torn (start .args .last) (start .args .b) (start .args .memory .now) (start .args .input .now) (start .args .output .now) (start .args .at) (start .pre .1) (if1 .left) (head-of .ensures) (enum-told .given .1) (word .ensures) (word2 .ensures), start .pre .0, omega (arith, if1 .left, start .pre .1))
 
 enum-told-2 : tie.Need-enum-told-2
 enum-told-2 c = search needs
@@ -78,16 +97,26 @@ same-length-3 c = search needs
 
 returns-2 : tie.Need-returns-2
 returns-2 c =
+    let if1 = c .before .before .before .before .before .before .before .before .before .before .before .before .before .before .before .before .before .before .before .before .before .if1 in
+    let head-of = c .before .before .before .before .before .before .before .before .before .before .before .before .before .before .before .before .before .before .before .before .head-of in
+    let enum-told = c .before .before .before .before .before .before .before .before .before .before .before .before .before .before .before .before .before .before .enum-told in
+    let word = c .before .before .before .before .before .before .before .before .before .before .before .before .before .before .before .word in
+    let word2 = c .before .before .before .before .before .before .before .before .before .before .before .before .word2 in
+    let print-event = c .before .before .before .before .before .before .before .print-event in
     let start = c .before .before .before .before .before .before .before .before .before .before .before .before .before .before .before .before .before .before .before .before .before .before .before .before .before .before in
-    whole-taken (start .args .last) (start .args .b) (start .args .memory .now) (start .args .input .now) (start .args .output .now) (start .args .at) (start .pre .1) (c .before .before .before .before .before .before .before .before .before .before .before .before .before .before .before .before .before .before .before .before .before .if1 .left) (c .before .before .before .before .before .before .before .before .before .before .before .before .before .before .before .before .before .before .before .before .head-of .ensures) (c .before .before .before .before .before .before .before .before .before .before .before .before .before .before .before .before .before .before .enum-told .given .1) (c .before .before .before .before .before .before .before .before .before .before .before .before .before .before .before .word .ensures) (c .before .before .before .before .before .before .before .before .before .before .before .before .word2 .ensures) (c .before .before .before .before .before .before .before .print-event .ensures)
+    whole-taken (start .args .last) (start .args .b) (start .args .memory .now) (start .args .input .now) (start .args .output .now) (start .args .at) (start .pre .1) (if1 .left) (head-of .ensures) (enum-told .given .1) (word .ensures) (word2 .ensures) (print-event .ensures)
 
 same-length-4 : tie.Need-same-length-4
 same-length-4 c = search needs
 
 returns-3 : tie.Need-returns-3
 returns-3 c =
+    let if1 = c .before .before .before .before .before .before .before .if1 in
+    let head-of = c .before .before .before .before .before .before .head-of in
+    let enum-told2 = c .before .before .before .before .enum-told2 in
+    let put-torn = c .before .before .put-torn in
     let start = c .before .before .before .before .before .before .before .before .before .before .before .before in
-    torn-taken (start .args .last) (start .args .b) (start .args .memory .now) (start .args .input .now) (start .args .output .now) (start .args .at) (start .pre .1) (c .before .before .before .before .before .before .before .if1 .left) (c .before .before .before .before .before .before .head-of .ensures) (c .before .before .before .before .enum-told2 .given .1) (c .before .before .put-torn .ensures)
+    torn-taken (start .args .last) (start .args .b) (start .args .memory .now) (start .args .input .now) (start .args .output .now) (start .args .at) (start .pre .1) (if1 .left) (head-of .ensures) (enum-told2 .given .1) (put-torn .ensures)
 
 returns-4 : tie.Need-returns-4
 returns-4 c =

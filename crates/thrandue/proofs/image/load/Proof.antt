@@ -61,7 +61,13 @@ shared-slice-read-t26 : tie.Need-shared-slice-read-t26
 shared-slice-read-t26 c = search needs
 
 returns : tie.Need-returns
-returns c = rw (c .before .before .before .before .before .before .before .before .before .before .before .before .before .before .before .before .before .copy .ensures ∙ first-half (replicate 16 0) (c .before .before .before .before .before .before .before .before .before .before .before .before .before .before .before .before .before .before .before .before .args .image .now) refl (c .before .before .before .before .before .before .before .before .before .before .before .before .before .before .before .before .before .before .before .before .pre), c .before .before .phase-from .ensures, c .before .before .before .before .before .before .before .before .before .long .ensures, c .before .before .before .before .long2 .ensures)
+returns c =
+    let start = c .before .before .before .before .before .before .before .before .before .before .before .before .before .before .before .before .before .before .before .before in
+    let copy = c .before .before .before .before .before .before .before .before .before .before .before .before .before .before .before .before .before .copy in
+    let long = c .before .before .before .before .before .before .before .before .before .long in
+    let long2 = c .before .before .before .before .long2 in
+    let phase-from = c .before .before .phase-from in
+    rw (copy .ensures ∙ first-half (replicate 16 0) (start .args .image .now) refl (start .pre), phase-from .ensures, long .ensures, long2 .ensures)
 
 pub load-spec : {M : Type 1} → statement M
 load-spec =
