@@ -1,5 +1,5 @@
 -- Rows of a line: what its elements make, put one behind the other, and how long they are.
-use mathlib.Core.Path.{_≡_, refl}
+use mathlib.Core.Path.{_≡_, refl, ap, _∙_}
 use mathlib.Core.Bool.{Bool, true, false, cond}
 use mathlib.Core.List.{List, [], _∷_, _++_, append-assoc, append-nil}
 use Prim.Native.Nat.{ℕ, _+_, _*_, _/_, _%_, _≤_, _<_}
@@ -8,9 +8,9 @@ use native.Mathlib.Numerals.{add-one}
 use native.Mathlib.Omega.{arith}
 use lib.Dec.{ltb}
 use lib.ListN.{length, take, getD, set, length-append}
-use lib.Seq.{take-suc}
+use lib.Seq.{take-suc, length-take-le}
 use Rattle.lent.specs.Rows.{Put}
-use Rattle.lent.proofs.Rows.{put-put}
+use Rattle.lent.proofs.Rows.{put-length, put-put}
 use Rattle.records.specs.Lines.{digit, number, hexByte, hexWord, each, lineMost}
 
 -- one value, and what is put behind it
@@ -47,8 +47,26 @@ number-length n = by-digits (ltb n 10)
     by-digits true = omega arith
     by-digits false = omega arith
 
--- no line is longer than the longest
-pub line-most : (f : ℕ → List ℕ) (m : ℕ) → ((x : ℕ) → length (f x) ≡ m) → (n : ℕ) (xs : List ℕ) → length xs * m ≤ 12288
-    → length (number n ++ each f xs ++ 0x0A ∷ []) ≤ lineMost
-line-most f m h n xs l =
-    rw (length-append (number n ++ each f xs) (0x0A ∷ []), length-append (number n) (each f xs), each-length f m h xs) (omega (arith, number-length n))
+-- ---- a line: the number, what was handed out, and the end. f is hexByte or hexWord, and m how long it is.
+
+module _ (f : ℕ → List ℕ) (m : ℕ) (size : (x : ℕ) → length (f x) ≡ m) (n : ℕ) (out : List ℕ) (count : ℕ) (there : count ≤ length out) (short : count * m ≤ 12288)
+    {a b : List ℕ} {at i : ℕ} (room : at + lineMost ≤ length a) (number-put : Put a at (number n) b i) where
+  abbrev shown : List ℕ
+  shown = each f (take count out)
+
+  shown-length : length shown ≡ count * m
+  shown-length = each-length f m size (take count out) ∙ ap (λ k. k * m) (length-take-le count out there)
+
+  pub shown-fits : i + count * m ≤ length b
+  shown-fits = omega (arith, number-put .moved, number-length n, put-length number-put)
+
+  module _ {c : List ℕ} {j : ℕ} (shown-put : Put b i shown c j) where
+    pub end-fits : j + 1 ≤ length c
+    end-fits = omega (arith, number-put .moved, number-length n, put-length number-put, shown-put .moved, put-length shown-put, shown-length)
+
+    -- the line stands there, and it is inside
+    pub line-put : {d : List ℕ} {k : ℕ} → Put c j (0x0A ∷ []) d k → Put a at (number n ++ shown ++ 0x0A ∷ []) d k × (k ≤ length a)
+    line-put end-put = (
+      put-put (number n ++ shown) (0x0A ∷ []) (put-put (number n) shown number-put shown-put) end-put,
+      omega (arith, end-put .moved, end-fits, put-length shown-put, put-length number-put),
+    )
