@@ -39,16 +39,18 @@ fn copy_all(dst: &mut [u8], at: usize, src: &[u8], n: usize)
     }
 }
 
+fn least(a: usize, b: usize) -> usize
+    ensures { λ r. ⌜ r ≡ min a b ⌝ }
+{
+    if a < b { a } else { b }
+}
+
 // Copies src into dst, from `at` on and as far as dst goes.
 pub fn copy(dst: &mut [u8], at: usize, src: &[u8])
     ensures { λ r. ⌜ now (dst .exit) ≡ paste (now (dst .entry)) at (now (src .entry)) (min (length (now (src .entry))) (length (now (dst .entry)) - at)) ⌝ }
 {
     if at < dst.len() {
-        let room = dst.len() - at;
-        if src.len() < room {
-            copy_all(dst, at, src, src.len());
-        } else {
-            copy_all(dst, at, src, room);
-        }
+        let n = least(src.len(), dst.len() - at);
+        copy_all(dst, at, src, n);
     }
 }

@@ -7,17 +7,21 @@ use native.Mathlib.Omega.{arith}
 use lib.ListN.{length, take, drop, drop-of-length-le}
 use lib.Seq.{paste, take-all}
 use borrow.Author.Tests.{eq-eqb, ne-eqb}
-use mir.Val.{boolByte}
-use Rattle.lent.proofs.Laws.{bool-byte}
 use Rattle.rules.specs.declared.Bridge.{Bridge}
+use Rattle.rules.specs.declared.Direction.{Direction}
+use Rattle.rules.specs.declared.Direction.the-variants.{None, In, Out}
+use Rattle.rules.specs.declared.Status.{Status}
+use Rattle.rules.specs.declared.Status.the-variants.{Passed, Failed, PhaseError}
 use Rattle.held.specs.declared.Outcome.{Outcome}
 use Rattle.held.specs.Outcomes.{Leaves}
 use Rattle.rules.specs.Words.{bytes4}
 use Rattle.rules.specs.Held.{world}
+use Rattle.rules.specs.Packets.{statusNumber}
+use Rattle.rules.specs.Reports.{directionNumber}
 use Rattle.rules.specs.Step.{Event}
 use Rattle.rules.specs.Promise.{Left, leaves}
 use Rattle.thrandue.specs.declared.image.Coded.{Coded}
-use Rattle.thrandue.specs.Image.{codeOf, row, encode, decode}
+use Rattle.thrandue.specs.Image.{codeOf, flagsOf, row, encode, decode}
 use Rattle.thrandue.specs.Calls.{called, returns, imageLeft, calls, reads}
 
 nothing-left : (l : List ℕ) (n : ℕ) → length l ≤ n → drop n l ≡ []
@@ -37,11 +41,10 @@ whole-image image new i n =
     (ap₂ (λ (x y : List ℕ). x ++ y) (take-all 32 new (omega arith)) (nothing-left image 32 (omega arith)) ∙ append-nil new)
 
 -- the bytes of an image, from the parts that it is made of
-pub image-made : (b : Bridge) {code : Coded} {tag amount : List ℕ} → code ≡ codeOf (b .phase) → tag ≡ bytes4 (code .tag) → amount ≡ bytes4 (code .amount)
-    → row 0 16 (b .bytes) ++ row 0 4 tag ++ row 0 4 amount
-    ++ code .number ∷ code .detail ∷ boolByte (b .configured) ∷ boolByte (b .halts .outward) ∷ boolByte (b .halts .inward) ∷ 0 ∷ 0 ∷ 0 ∷ []
-    ≡ encode b
-image-made b c t a = rw (t, a, c, bool-byte (b .configured), bool-byte (b .halts .outward), bool-byte (b .halts .inward))
+pub image-made : (b : Bridge) {code : Coded} {tag amount : List ℕ} {flags : ℕ} → code ≡ codeOf (b .phase) → tag ≡ bytes4 (code .tag)
+    → amount ≡ bytes4 (code .amount) → flags ≡ flagsOf b
+    → row 0 16 (b .bytes) ++ row 0 4 tag ++ row 0 4 amount ++ code .number ∷ flags ∷ 0 ∷ 0 ∷ 0 ∷ 0 ∷ 0 ∷ 0 ∷ [] ≡ encode b
+image-made b c t a f = rw (t, a, c, f)
 
 -- ---- what a call leaves
 
@@ -66,3 +69,15 @@ not-read f image h = rw (ne-eqb (length image) 32 h)
 
 pub is-read : (f : Bridge → ℕ) (image : List ℕ) {b : Bridge} → length image ≡ 32 → b ≡ decode image → f b ≡ reads f image
 is-read f image h e = rw (eq-eqb (length image) 32 h) (ap f e)
+
+-- ---- numbers of a phase
+
+pub direction-most : (d : Direction) → directionNumber d ≤ 2
+direction-most None = omega arith
+direction-most In = omega arith
+direction-most Out = omega arith
+
+pub status-most : (s : Status) → statusNumber s ≤ 2
+status-most Passed = omega arith
+status-most Failed = omega arith
+status-most PhaseError = omega arith

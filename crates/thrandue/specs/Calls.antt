@@ -6,11 +6,13 @@ use mathlib.Core.List.{List, []}
 use lib.ListN.{length}
 use lib.Dec.{eqb}
 use Rattle.rules.specs.declared.Bridge.{Bridge}
+use Rattle.rules.specs.declared.Phase.{Phase}
+use Rattle.rules.specs.declared.Phase.the-variants.{Awaiting, Busy, StatusWaiting, Stopped}
 use Rattle.rules.specs.Words.{one}
 use Rattle.rules.specs.Held.{world, powerOn}
 use Rattle.rules.specs.Step.{Event, done, damaged}
 use Rattle.rules.specs.Promise.{Left, leaves}
-use Rattle.thrandue.specs.Image.{imageLength, codeOf, encode, decode}
+use Rattle.thrandue.specs.Image.{imageLength, encode, decode}
 
 -- the number that a call returns, the image, the memory, and the lent room
 pub record Called : Type 0 where
@@ -52,8 +54,15 @@ powers image =
 abbrev pub reads : (Bridge → ℕ) → List ℕ → ℕ
 reads f image = cond (eqb (length image) imageLength) (f (decode image)) 255
 
+-- 0 awaiting, 1 busy, 2 status waiting, 3 stopped, 4 stopped and a Mass Storage Reset has come
+abbrev pub numberOf : Phase → ℕ
+numberOf Awaiting = 0
+numberOf (Busy tag l direction) = 1
+numberOf (StatusWaiting tag residue status) = 2
+numberOf (Stopped reset) = 3 + one reset
+
 abbrev pub phaseNumber : Bridge → ℕ
-phaseNumber b = codeOf (b .phase) .number
+phaseNumber b = numberOf (b .phase)
 
 -- 1 for bulk out, and 2 for bulk in
 abbrev pub haltNumber : Bridge → ℕ

@@ -3,7 +3,7 @@ ghost use mathlib.Core.Path.{_≡_};
 ghost use mathlib.Core.Bool.{true};
 ghost use Prim.Native.Nat.{_+_, _*_};
 ghost use lib.ListN.{length};
-ghost use Rattle.thrandue.specs.Image.{imageLength, codeOf, directionFrom, statusFrom, phaseFrom, encode, decode};
+ghost use Rattle.thrandue.specs.Image.{imageLength, codeOf, phaseFrom, flagsOf, encode, decode};
 ghost use Rattle.thrandue.specs.Calls.{imageLeft, phaseNumber};
 use bridge::Outcome;
 use rules::Bridge;
@@ -17,7 +17,6 @@ pub(crate) const LENGTH: usize = 32;
 // A phase as numbers.
 pub(crate) struct Coded {
     pub(crate) number: u8,
-    pub(crate) detail: u8,
     pub(crate) tag: u32,
     pub(crate) amount: u32,
 }
@@ -28,7 +27,6 @@ fn code_of(p: Phase) -> Coded
     match p {
         Phase::Awaiting => Coded {
             number: 0,
-            detail: 0,
             tag: 0,
             amount: 0,
         },
@@ -37,8 +35,7 @@ fn code_of(p: Phase) -> Coded
             length,
             direction,
         } => Coded {
-            number: 1,
-            detail: direction.number(),
+            number: 1 + direction.number(),
             tag: tag,
             amount: length,
         },
@@ -47,45 +44,35 @@ fn code_of(p: Phase) -> Coded
             residue,
             status,
         } => Coded {
-            number: 2,
-            detail: status.number(),
+            number: 4 + status.number(),
             tag: tag,
             amount: residue,
         },
         Phase::Stopped { reset } => Coded {
-            number: 3 + reset as u8,
-            detail: 0,
+            number: 7 + reset as u8,
             tag: 0,
             amount: 0,
         },
     }
 }
 
-pub(crate) fn phase_number(b: Bridge) -> u8
-    ensures { λ r. ⌜ r ≡ phaseNumber b ⌝ }
+fn busy(c: Coded, direction: Direction) -> Phase
+    ensures { λ r. ⌜ r ≡ Phase.Busy (c .tag) (c .amount) direction ⌝ }
 {
-    let phase = b.phase;
-    let code = code_of(phase);
-    code.number
-}
-
-fn direction_from(n: u8) -> Direction
-    ensures { λ r. ⌜ r ≡ directionFrom n ⌝ }
-{
-    match n {
-        0 => Direction::None,
-        1 => Direction::In,
-        _ => Direction::Out,
+    Phase::Busy {
+        tag: c.tag,
+        length: c.amount,
+        direction: direction,
     }
 }
 
-fn status_from(n: u8) -> Status
-    ensures { λ r. ⌜ r ≡ statusFrom n ⌝ }
+fn waiting(c: Coded, status: Status) -> Phase
+    ensures { λ r. ⌜ r ≡ Phase.StatusWaiting (c .tag) (c .amount) status ⌝ }
 {
-    match n {
-        0 => Status::Passed,
-        1 => Status::Failed,
-        _ => Status::PhaseError,
+    Phase::StatusWaiting {
+        tag: c.tag,
+        residue: c.amount,
+        status: status,
     }
 }
 
@@ -95,18 +82,41 @@ fn phase_from(c: Coded) -> Phase
     let number = c.number;
     match number {
         0 => Phase::Awaiting,
-        1 => Phase::Busy {
-            tag: c.tag,
-            length: c.amount,
-            direction: direction_from(c.detail),
-        },
-        2 => Phase::StatusWaiting {
-            tag: c.tag,
-            residue: c.amount,
-            status: status_from(c.detail),
-        },
-        _ => Phase::Stopped { reset: number != 3 },
+        1 => busy(c, Direction::None),
+        2 => busy(c, Direction::In),
+        3 => busy(c, Direction::Out),
+        4 => waiting(c, Status::Passed),
+        5 => waiting(c, Status::Failed),
+        6 => waiting(c, Status::PhaseError),
+        _ => Phase::Stopped { reset: number != 7 },
     }
+}
+
+pub(crate) fn phase_number(b: Bridge) -> u8
+    ensures { λ r. ⌜ r ≡ phaseNumber b ⌝ }
+{
+    let phase = b.phase;
+    match phase {
+        Phase::Awaiting => 0,
+        Phase::Busy {
+            tag: _,
+            length: _,
+            direction: _,
+        } => 1,
+        Phase::StatusWaiting {
+            tag: _,
+            residue: _,
+            status: _,
+        } => 2,
+        Phase::Stopped { reset } => 3 + reset as u8,
+    }
+}
+
+// The configuration and the halts, a bit each.
+fn flags_of(b: Bridge) -> u8
+    ensures { λ r. ⌜ r ≡ flagsOf b ⌝ }
+{
+    b.configured as u8 + 2 * b.halts.outward as u8 + 4 * b.halts.inward as u8
 }
 
 // The state that the image stands for.
@@ -118,17 +128,17 @@ pub(crate) fn load(image: &[u8]) -> Bridge
     lent::copy(&mut bytes, 0, image);
     let coded = Coded {
         number: image[24],
-        detail: image[25],
         tag: lent::long(image[16], image[17], image[18], image[19]),
         amount: lent::long(image[20], image[21], image[22], image[23]),
     };
+    let flags = image[25];
     Bridge {
-        configured: image[26] != 0,
+        configured: flags / 1 % 2 == 1,
         bytes: bytes,
         phase: phase_from(coded),
         halts: Halts {
-            outward: image[27] != 0,
-            inward: image[28] != 0,
+            outward: flags / 2 % 2 == 1,
+            inward: flags / 4 % 2 == 1,
         },
     }
 }
@@ -167,10 +177,10 @@ fn image_of(b: Bridge) -> [u8; 32]
         amount[2],
         amount[3],
         code.number,
-        code.detail,
-        b.configured as u8,
-        b.halts.outward as u8,
-        b.halts.inward as u8,
+        flags_of(b),
+        0,
+        0,
+        0,
         0,
         0,
         0,

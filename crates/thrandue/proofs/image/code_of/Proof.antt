@@ -2,6 +2,7 @@
 use native.Mathlib.Omega.{arith}
 use borrow.Author.Needs.{needs}
 use Rattle.lent.proofs.Laws.{bool-byte, bool-most}
+use Rattle.thrandue.proofs.Laws.{direction-most, status-most}
 use Rattle.thrandue.proofs.image.code_of.Statement.{statement}
 use Rattle.thrandue.proofs.image.code_of.Tie as tie
 
@@ -14,20 +15,26 @@ enum-known-p c = search needs
 number-requires : tie.Need-number-requires
 number-requires c κs = search needs
 
+add-t11 : tie.Need-add-t11
+add-t11 c = omega (arith, c .number .ensures, direction-most (c .before .before .p .given .0 .1 .1 .0))
+
 enum-known-p-2 : tie.Need-enum-known-p-2
 enum-known-p-2 c = search needs
 
 number-requires-2 : tie.Need-number-requires-2
 number-requires-2 c κs = search needs
 
+add-t13 : tie.Need-add-t13
+add-t13 c = omega (arith, c .number2 .ensures, status-most (c .before .before .p2 .given .0 .1 .1 .0))
+
 enum-known-p-3 : tie.Need-enum-known-p-3
 enum-known-p-3 c = search needs
 
-cast-t12 : tie.Need-cast-t12
-cast-t12 c = search needs
+cast-t14 : tie.Need-cast-t14
+cast-t14 c = search needs
 
-add-t13 : tie.Need-add-t13
-add-t13 c = omega (arith, bool-most (c .before .p3 .given .0 .0))
+add-t15 : tie.Need-add-t15
+add-t15 c = omega (arith, bool-most (c .before .p3 .given .0 .0))
 
 returns : tie.Need-returns
 returns c = rw (c .enum-told .given .1)
@@ -48,11 +55,13 @@ code-of-spec =
     enum-told
     enum-known-p
     number-requires
+    add-t11
     enum-known-p-2
     number-requires-2
-    enum-known-p-3
-    cast-t12
     add-t13
+    enum-known-p-3
+    cast-t14
+    add-t15
     returns
     returns-2
     returns-3

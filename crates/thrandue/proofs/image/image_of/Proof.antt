@@ -85,17 +85,11 @@ array-read-t76 c = search needs
 array-read-t79 : tie.Need-array-read-t79
 array-read-t79 c = search needs
 
-cast-t80 : tie.Need-cast-t80
-cast-t80 c = search needs
-
-cast-t81 : tie.Need-cast-t81
-cast-t81 c = search needs
-
-cast-t82 : tie.Need-cast-t82
-cast-t82 c = search needs
+flags-of-requires : tie.Need-flags-of-requires
+flags-of-requires c κs = search needs
 
 returns : tie.Need-returns
-returns c = image-made (c .before .before .before .before .before .before .before .args .b) (c .before .before .before .before .before .code-of .ensures) (c .before .before .before .before .bytes-of .ensures) (c .before .before .before .bytes-of2 .ensures)
+returns c = image-made (c .before .before .before .before .before .args .b) (c .before .before .before .code-of .ensures) (c .before .before .bytes-of .ensures) (c .before .bytes-of2 .ensures) (c .flags-of .ensures)
 
 pub image-of-spec : {M : Type 1} → statement M
 image-of-spec =
@@ -128,7 +122,5 @@ image-of-spec =
     array-read-t73
     array-read-t76
     array-read-t79
-    cast-t80
-    cast-t81
-    cast-t82
+    flags-of-requires
     returns)

@@ -12,11 +12,8 @@ slice-aggregate-copy c = search needs
 copy-requires : tie.Need-copy-requires
 copy-requires c κs = search needs
 
-shared-slice-read-t8 : tie.Need-shared-slice-read-t8
-shared-slice-read-t8 c = search needs
-
-shared-slice-read-t10 : tie.Need-shared-slice-read-t10
-shared-slice-read-t10 c = search needs
+shared-slice-read-flags : tie.Need-shared-slice-read-flags
+shared-slice-read-flags c = search needs
 
 shared-slice-read-long : tie.Need-shared-slice-read-long
 shared-slice-read-long c = search needs
@@ -48,26 +45,16 @@ shared-slice-read-long-8 c = search needs
 long-requires-2 : tie.Need-long-requires-2
 long-requires-2 c κs = search needs
 
-shared-slice-read-t8-2 : tie.Need-shared-slice-read-t8-2
-shared-slice-read-t8-2 c = search needs
+shared-slice-read-flags-2 : tie.Need-shared-slice-read-flags-2
+shared-slice-read-flags-2 c = search needs
 
 phase-from-requires : tie.Need-phase-from-requires
 phase-from-requires c κs = search needs
 
-shared-slice-read-t28 : tie.Need-shared-slice-read-t28
-shared-slice-read-t28 c = search needs
-
-shared-slice-read-t26 : tie.Need-shared-slice-read-t26
-shared-slice-read-t26 c = search needs
-
 returns : tie.Need-returns
 returns c =
-    let start = c .before .before .before .before .before .before .before .before .before .before .before .before .before .before .before .before .before .before .before .before in
-    let copy = c .before .before .before .before .before .before .before .before .before .before .before .before .before .before .before .before .before .copy in
-    let long = c .before .before .before .before .before .before .before .before .before .long in
-    let long2 = c .before .before .before .before .long2 in
-    let phase-from = c .before .before .phase-from in
-    rw (copy .ensures ∙ first-half (replicate 16 0) (start .args .image .now) refl (start .pre), phase-from .ensures, long .ensures, long2 .ensures)
+    let start = c .before .before .before .before .before .before .before .before .before .before .before .before .before .before .before .before .before in
+    rw (c .before .before .before .before .before .before .before .before .before .before .before .before .before .before .copy .ensures ∙ first-half (replicate 16 0) (start .args .image .now) refl (start .pre), c .phase-from .ensures, c .before .before .before .before .before .before .before .long .ensures, c .before .before .long2 .ensures)
 
 pub load-spec : {M : Type 1} → statement M
 load-spec =
@@ -75,8 +62,7 @@ load-spec =
     (tie.spec
     slice-aggregate-copy
     copy-requires
-    shared-slice-read-t8
-    shared-slice-read-t10
+    shared-slice-read-flags
     shared-slice-read-long
     shared-slice-read-long-2
     shared-slice-read-long-3
@@ -87,8 +73,6 @@ load-spec =
     shared-slice-read-long-7
     shared-slice-read-long-8
     long-requires-2
-    shared-slice-read-t8-2
+    shared-slice-read-flags-2
     phase-from-requires
-    shared-slice-read-t28
-    shared-slice-read-t26
     returns)
