@@ -50,23 +50,25 @@ pub fn status(b: Bridge, reply: &mut [u8]) -> Outcome
     if held::is_stopped(phase) | b.halts.inward {
         return answered(answers::HALTED, b);
     }
-    let waiting = match phase {
+    match phase {
         Phase::StatusWaiting {
             tag,
             residue,
             status,
-        } => StatusPacket {
-            tag: tag,
-            residue: residue,
-            status: status,
-        },
+        } => {
+            let waiting = StatusPacket {
+                tag: tag,
+                residue: residue,
+                status: status,
+            };
+            handed_out(b, waiting, reply)
+        }
         Phase::Awaiting
         | Phase::Busy {
             tag: _,
             length: _,
             direction: _,
         }
-        | Phase::Stopped { reset: _ } => return answered(answers::WRONG_PHASE, b),
-    };
-    handed_out(b, waiting, reply)
+        | Phase::Stopped { reset: _ } => answered(answers::WRONG_PHASE, b),
+    }
 }

@@ -28,15 +28,6 @@ returns-2 c = rw (c .answered2 .ensures) (status-refused _ _ 11 (rw (not-false (
 enum-known-phase : tie.Need-enum-known-phase
 enum-known-phase c = search needs
 
-answered-requires-3 : tie.Need-answered-requires-3
-answered-requires-3 c κs = search needs
-
-returns-3 : tie.Need-returns-3
-unfolding statusAnswer
-returns-3 c =
-    let at = c .before .before .before .before .before .before .before .before .args in
-    rw (c .answered3 .ensures) (status-refused _ _ 16 (rw (not-false (at .b .configured) (c .before .before .before .before .before .if1 .left), ← c .before .before .before .before .is-stopped .ensures, c .before .before .if2 .left, none-waits (at .b .phase) (c .before .match .keys2))) refl)
-
 handed-out-requires : tie.Need-handed-out-requires
 handed-out-requires c κs =
     record {
@@ -45,11 +36,20 @@ handed-out-requires c κs =
       waits = c .before .before .phase .given .1;
     }
 
+answered-requires-3 : tie.Need-answered-requires-3
+answered-requires-3 c κs = search needs
+
 same-length : tie.Need-same-length
 same-length c = search needs
 
+returns-3 : tie.Need-returns-3
+returns-3 c = search needs
+
 returns-4 : tie.Need-returns-4
-returns-4 c = search needs
+unfolding statusAnswer
+returns-4 c =
+    let at = c .before .before .before .before .before .before .before .before .args in
+    rw (c .answered3 .ensures) (status-refused _ _ 16 (rw (not-false (at .b .configured) (c .before .before .before .before .before .if1 .left), ← c .before .before .before .before .is-stopped .ensures, c .before .before .if2 .left, none-waits (at .b .phase) (c .before .match .keys2))) refl)
 
 pub status-spec : {M : Type 1} → statement M
 status-spec =
@@ -61,8 +61,8 @@ status-spec =
     answered-requires-2
     returns-2
     enum-known-phase
-    answered-requires-3
-    returns-3
     handed-out-requires
+    answered-requires-3
     same-length
+    returns-3
     returns-4)
