@@ -2,7 +2,8 @@
 # make replay SESSION=FILE: what the bridge does with a session, in words.
 # make test: everything is proved and tested, from nothing; its last line is 'N passed, 0 failed'.
 # make soak EVENTS=N SEED=S: the programs are compared on N generated events.
-.PHONY: all replay test soak clean
+# make figures: docs/FIGURES.md, the instructions, times and sizes of both bridges, and what the proofs take.
+.PHONY: all replay test soak figures clean
 .DELETE_ON_ERROR:
 .NOTPARALLEL:
 
@@ -10,12 +11,14 @@ SESSION = sessions/written/worked-case.txt
 EVENTS = 1000000
 SEED = 1
 
-strict = -std=c11 -Wall -Wextra -Wpedantic -Werror -O2
+c11 = -std=c11 -Wall -Wextra -Wpedantic -Werror
+strict = $(c11) -O2
 crates := crates.txt $(shell find crates -type f -not -path '*/must-fail/*')
 headers := $(wildcard host/*.h)
 records = host/record.c host/command.c
 replay = host/replay.c host/explain.c host/bench.c $(records)
 second = host/standin.c host/second_bridge.c
+measure = host/measure.c host/measured.c $(records)
 proving = @echo 'proving the crates (some minutes at first)'
 
 all: build/bench build/replay build/second build/session build/generate
@@ -28,6 +31,9 @@ test:
 
 soak: all
 	@tests/soak '$(EVENTS)' '$(SEED)'
+
+figures: build/session build/generate build/figures/thrandue build/figures/second
+	@tools/figures
 
 clean:
 	rm -rf build target
@@ -54,6 +60,19 @@ build/replay: build/x86-64/replay tools/x86
 build/x86-64/replay: $(replay) target/staticlib/libthrandue.a $(headers)
 	@mkdir -p $(@D)
 	tools/x86 cc $(strict) -o $@ $(filter %.c %.a,$^)
+
+# Both bridges at -O3 by the compiler that made the archive, and one program that calls them. Their calls return to where it made them, so that
+# they can be told from their caller.
+build/figures/%.o: host/%.c $(headers) $(wildcard tools/freestanding/*.h)
+	@mkdir -p $(@D)
+	tools/x86 clang $(c11) -O3 -ffunction-sections -fno-asynchronous-unwind-tables -c -o $@ $<
+
+build/figures/thrandue: $(measure) build/figures/plain_copy.o target/staticlib/libthrandue.a
+build/figures/second: $(measure) build/figures/plain_copy.o build/figures/second_bridge.o
+build/figures/second: define = -DMEASURES_SECOND
+build/figures/thrandue build/figures/second: $(headers)
+	@mkdir -p $(@D)
+	tools/x86 cc $(strict) $(define) -static -fno-optimize-sibling-calls -o $@ $(filter %.c %.o %.a,$^)
 
 build/second: $(replay) $(second)
 build/session: host/session.c $(records)
