@@ -3,8 +3,8 @@ ghost use mathlib.Core.Path.{_≡_};
 ghost use mathlib.Core.List.{_∷_};
 ghost use Prim.Native.Nat.{_+_, _-_, _≤_};
 ghost use lib.ListN.{length, replicate};
-ghost use Rattle.control.specs.Granted.{Room, Sent, Granted};
-ghost use Rattle.held.specs.Outcomes.{Leaves};
+ghost use Rattle.control.specs.Granted.{Granted};
+ghost use Rattle.held.specs.Outcomes.{outcome, Leaves};
 ghost use Rattle.rules.specs.Words.{laid, one};
 ghost use Rattle.rules.specs.Held.{world, configuration, holding as keeping};
 ghost use Rattle.rules.specs.Requests.{haltOf, storeOf, replyTo, bridgeAfter, memoryAfter};
@@ -51,27 +51,6 @@ fn load(s: Setup, b: Bridge, host: &[u8], memory: &mut [u8]) -> Bridge
     let mut bytes = b.bytes;
     lent::copy(&mut bytes, at, host);
     holding(bytes, b)
-}
-
-// The bridge and the memory after a request.
-fn changed(r: Request, s: Setup, b: Bridge, host: &[u8], memory: &mut [u8]) -> Bridge
-    requires { ⌜ Sent r s (now host) (world b (now memory)) ⌝ }
-    ensures { λ next. ⌜ (next ≡ bridgeAfter r s (now (host .entry)) b) × (now (memory .exit) ≡ memoryAfter r s (now (host .entry)) (now (memory .entry))) ⌝ }
-{
-    let phase = b.phase;
-    match r {
-        Request::SetConfiguration => fresh(s.value == 2, b),
-        Request::ClearFeature => recovery::clear_feature(s.index, b),
-        Request::MassStorageReset => in_phase(recovery::mass_storage_reset(phase), b),
-        Request::SoftReset => in_phase(recovery::soft_reset(phase), b),
-        Request::LoadConfigData => load(s, b, host, memory),
-        Request::GetConfiguration
-        | Request::GetStatus
-        | Request::GetMaxLun
-        | Request::ReadConfigData
-        | Request::BogusRead
-        | Request::Unknown => b,
-    }
 }
 
 // The bytes at the addresses from start on.
@@ -125,29 +104,14 @@ fn number(low: u8, n: u16, reply: &mut [u8]) -> u16
     n
 }
 
-// The reply, at the front of the lent buffer, and how long it is.
-fn reply_to(r: Request, s: Setup, b: Bridge, memory: &[u8], reply: &mut [u8]) -> u16
-    requires { ⌜ Room r s (world b (now memory)) (length (now reply)) ⌝ }
-    ensures { λ n. ⌜ (n ≡ length (replyTo r s (world b (now (memory .entry))))) × (now (reply .exit) ≡ laid (replyTo r s (world b (now (memory .entry)))) (now (reply .entry))) ⌝ }
+// Done, with a reply of so many bytes.
+fn replied(count: u16, b: Bridge) -> Outcome
+    ensures { λ o. ⌜ o ≡ outcome 0 count b ⌝ }
 {
-    match r {
-        Request::GetConfiguration => number(configuration_of(b), 1, reply),
-        Request::GetStatus => number(halt_of(s.index, b), 2, reply),
-        Request::GetMaxLun => number(0, 1, reply),
-        Request::ReadConfigData => {
-            read(s, b, memory, reply);
-            s.length
-        }
-        Request::BogusRead => {
-            clear(reply, s.length as usize);
-            s.length
-        }
-        Request::SetConfiguration
-        | Request::ClearFeature
-        | Request::MassStorageReset
-        | Request::LoadConfigData
-        | Request::SoftReset
-        | Request::Unknown => 0,
+    Outcome {
+        answer: answers::DONE,
+        count: count,
+        bridge: b,
     }
 }
 
@@ -163,10 +127,30 @@ fn serve(
     requires { ⌜ Granted r s (now host) (world b (now memory)) (length (now reply)) ⌝ }
     ensures { λ o. ⌜ left (o .answer) (o .count) (o .bridge) (now (memory .exit)) (now (reply .exit)) ≡ served r s (now (host .entry)) (world b (now (memory .entry))) (now (reply .entry)) ⌝ }
 {
-    Outcome {
-        answer: answers::DONE,
-        count: reply_to(r, s, b, memory, reply),
-        bridge: changed(r, s, b, host, memory),
+    let phase = b.phase;
+    match r {
+        Request::SetConfiguration => answered(answers::DONE, fresh(s.value == 2, b)),
+        Request::GetConfiguration => replied(number(configuration_of(b), 1, reply), b),
+        Request::ClearFeature => answered(answers::DONE, recovery::clear_feature(s.index, b)),
+        Request::GetStatus => replied(number(halt_of(s.index, b), 2, reply), b),
+        Request::GetMaxLun => replied(number(0, 1, reply), b),
+        Request::MassStorageReset => {
+            answered(
+                answers::DONE,
+                in_phase(recovery::mass_storage_reset(phase), b),
+            )
+        }
+        Request::LoadConfigData => answered(answers::DONE, load(s, b, host, memory)),
+        Request::ReadConfigData => {
+            read(s, b, memory, reply);
+            replied(s.length, b)
+        }
+        Request::SoftReset => answered(answers::DONE, in_phase(recovery::soft_reset(phase), b)),
+        Request::BogusRead => {
+            clear(reply, s.length as usize);
+            replied(s.length, b)
+        }
+        Request::Unknown => answered(answers::DONE, b),
     }
 }
 
