@@ -34,11 +34,8 @@ module _ (w : World) (setup host room : List ℕ) where
       go true d =
           let a : answer ≡ 0 = eqb-true answer 0 d in (
             record {
-              replies =
-                  record {
-                    fits = reply-fits w setup (length host) (length room) sixteen a;
-                    reads = read-inside w setup (length host) (length room) sixteen a;
-                  };
+              fits = reply-fits w setup (length host) (length room) sixteen a;
+              reads = read-inside w setup (length host) (length room) sixteen a;
               writes = write-inside w setup (length host) (length room) sixteen a;
             },
             control-done w setup host room (setupOf setup) (requestOf (setupOf setup)) refl refl a,

@@ -24,7 +24,7 @@ configuration-of-requires : tie.Need-configuration-of-requires
 configuration-of-requires c κs = search needs
 
 number-requires : tie.Need-number-requires
-number-requires c κs = (omega arith, rw (c .before .before .enum-told2 .given .1) at (c .before .before .before .before .before .before .before .pre .replies .fits))
+number-requires c κs = (omega arith, rw (c .before .before .enum-told2 .given .1) at (c .before .before .before .before .before .before .before .pre .fits))
 
 replied-requires : tie.Need-replied-requires
 replied-requires c κs = search needs
@@ -45,7 +45,7 @@ halt-of-requires : tie.Need-halt-of-requires
 halt-of-requires c κs = search needs
 
 number-requires-2 : tie.Need-number-requires-2
-number-requires-2 c κs = (omega arith, rw (c .before .before .enum-told4 .given .1) at (c .before .before .before .before .before .before .before .pre .replies .fits))
+number-requires-2 c κs = (omega arith, rw (c .before .before .enum-told4 .given .1) at (c .before .before .before .before .before .before .before .pre .fits))
 
 replied-requires-2 : tie.Need-replied-requires-2
 replied-requires-2 c κs = search needs
@@ -54,7 +54,7 @@ enum-told-5 : tie.Need-enum-told-5
 enum-told-5 c = search needs
 
 number-requires-3 : tie.Need-number-requires-3
-number-requires-3 c κs = (omega arith, rw (c .before .enum-told5 .given .1) at (c .before .before .before .before .before .before .pre .replies .fits))
+number-requires-3 c κs = (omega arith, rw (c .before .enum-told5 .given .1) at (c .before .before .before .before .before .before .pre .fits))
 
 replied-requires-3 : tie.Need-replied-requires-3
 replied-requires-3 c κs = search needs
@@ -87,8 +87,8 @@ read-requires : tie.Need-read-requires
 read-requires c κs =
     let start = c .before .before .before .before .before .before .before in
     let at = start .args in
-    let inside = start .pre .replies .reads (c .before .before .enum-told8 .given .1) in
-    (inside, rw (c .before .before .enum-told8 .given .1, part-length (storeOf (at .s .value) (world (at .b) (at .memory .now))) (at .s .index) (at .s .length) inside) at (start .pre .replies .fits))
+    let inside = start .pre .reads (c .before .before .enum-told8 .given .1) in
+    (inside, rw (c .before .before .enum-told8 .given .1, part-length (storeOf (at .s .value) (world (at .b) (at .memory .now))) (at .s .index) (at .s .length) inside) at (start .pre .fits))
 
 replied-requires-4 : tie.Need-replied-requires-4
 replied-requires-4 c κs = search needs
@@ -112,7 +112,7 @@ cast-clear : tie.Need-cast-clear
 cast-clear c = search needs
 
 clear-requires : tie.Need-clear-requires
-clear-requires c κs = rw (c .before .before .enum-told10 .given .1, length-replicate) at (c .before .before .before .before .before .before .before .pre .replies .fits)
+clear-requires c κs = rw (c .before .before .enum-told10 .given .1, length-replicate) at (c .before .before .before .before .before .before .before .pre .fits)
 
 replied-requires-5 : tie.Need-replied-requires-5
 replied-requires-5 c κs = search needs
@@ -167,7 +167,7 @@ returns-8 c =
     let start = c .before .before .before .before .before .before .before .before .before .before .before in
     let at = start .args in
     let told = c .before .before .before .before .before .before .enum-told8 .given .1 in
-    rw (told, c .replied4 .ensures, c .before .before .before .read .ensures, part-length (storeOf (at .s .value) (world (at .b) (at .memory .now))) (at .s .index) (at .s .length) (start .pre .replies .reads told))
+    rw (told, c .replied4 .ensures, c .before .before .before .read .ensures, part-length (storeOf (at .s .value) (world (at .b) (at .memory .now))) (at .s .index) (at .s .length) (start .pre .reads told))
 
 returns-9 : tie.Need-returns-9
 returns-9 c = rw (c .before .before .before .enum-told9 .given .1, c .answered5 .ensures, c .before .in-phase2 .ensures, c .before .before .soft-reset .ensures)
