@@ -2,6 +2,9 @@
 passed=0
 failed=0
 
+# The search for leaks takes seconds at the end of every sanitized program on aarch64; x86-64 makes it.
+[ "$(uname -m)" = x86_64 ] || export ASAN_OPTIONS=detect_leaks=0
+
 # expect NAME COMMAND..: passes where the command succeeds, and shows what it said where it does not.
 expect() {
     name=$1
