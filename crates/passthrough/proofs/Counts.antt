@@ -1,4 +1,4 @@
--- Bits and tests as numbers, and how many operations a block makes as the code counts them.
+-- Bits and tests as numbers, how many operations a block makes as the code counts them, and how many at most.
 use mathlib.Core.Path.{_≡_, refl, sym, ap, _∙_}
 use mathlib.Core.Bool.{Bool, true, false, cond, not}
 use mathlib.Core.List.{List}
@@ -66,3 +66,11 @@ module _ (block : List ℕ) (l : ℕ) (d : Direction) (h : byte 3 block < 256) w
       let registers = seven-eight _ _ _ _ _ _ _ _ ∙ sym (ones-tally block h) in
       rw (bool-byte (ltb 0 l))
       (counted block l d .1 (omega arith) .0 ∙ written _ _ _ _ _ _ (one-not (bitOf 2 (action block)) (omega arith)) (omega arith) registers)
+
+-- "At most 11 operations"
+pub most : (block : List ℕ) (l : ℕ) (d : Direction) → length (operationsOf block l d) ≤ 11
+most block l d = go (bit 0 (action block)) refl
+  where
+    go : (t : Bool) → bit 0 (action block) ≡ t → length (operationsOf block l d) ≤ 11
+    go true e = omega (arith, counted block l d .0 (eqb-true _ 1 e) .1)
+    go false e = let other : bitOf 0 (action block) ≡ 1 → ⊥ = eqb-false _ 1 e in counted block l d .1 (omega arith) .1

@@ -2,9 +2,10 @@
 use mathlib.Core.Path.{_≡_, sym, _∙_}
 use mathlib.Core.Bool.{Bool, true, false, not}
 use mathlib.Core.List.{List}
-use Prim.Native.Nat.{ℕ, _≤_, _<_}
+use Prim.Native.Nat.{ℕ}
+use lib.Dec.{ltb}
 use lib.ListN.{length}
-use borrow.Author.Tests.{not-true, not-false, ne-eqb, lt-ltb, le-ltb}
+use borrow.Author.Tests.{not-true, not-false, ne-eqb}
 use Rattle.rules.specs.declared.Direction.{Direction}
 use Rattle.rules.specs.Words.{laid}
 use Rattle.rules.specs.Packets.{recognised}
@@ -27,9 +28,9 @@ module _ (signature : ℕ) (block : List ℕ) (size l : ℕ) (d : Direction) (ro
     pub not-known : not r ≡ true → judgement Unrecognised row ≡ right
     not-known k = rw (s, sym by ∙ not-true r k)
 
-    module _ (k : not r ≡ false) {n : ℕ} (counted : n ≡ length made) where
-      pub no-room : length row < n → judgement NoRoom row ≡ right
-      no-room h = rw (s, sym by ∙ not-false r k, length-codes made, lt-ltb (length row) (length made) (rw counted at h))
+    module _ (k : not r ≡ false) {short : Bool} (told : short ≡ ltb (length row) (length made)) where
+      pub no-room : short ≡ true → judgement NoRoom row ≡ right
+      no-room h = rw (s, sym by ∙ not-false r k, length-codes made, sym told ∙ h)
 
-      pub all-made : n ≤ length row → judgement (Made n) (laid (codes made) row) ≡ right
-      all-made h = rw (counted, s, sym by ∙ not-false r k, length-codes made, le-ltb (length row) (length made) (rw counted at h))
+      pub all-made : short ≡ false → {n : ℕ} → n ≡ length made → judgement (Made n) (laid (codes made) row) ≡ right
+      all-made h counted = rw (counted, s, sym by ∙ not-false r k, length-codes made, sym told ∙ h)

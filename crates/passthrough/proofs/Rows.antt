@@ -3,7 +3,7 @@ use mathlib.Core.Path.{_≡_, refl, sym, ap, _∙_}
 use mathlib.Core.Bool.{Bool, true, false}
 use mathlib.Core.List.{List, [], _∷_, _++_, append-assoc}
 use Prim.Native.Nat.{ℕ, suc, _+_, _≤_, _<_}
-use native.Mathlib.Nat.{add-zero, le-refl}
+use native.Mathlib.Nat.{add-zero, zero-add, le-refl}
 use native.Mathlib.Decide.{le-ind}
 use native.Mathlib.Numerals.{add-one}
 use native.Mathlib.Omega.{arith}
@@ -41,10 +41,10 @@ module _ {a b : List ℕ} {i j : ℕ} (xs ys : List Operation) (p : Put a i xs b
   pub fits-next : Fits a i (xs ++ ys) → Fits b j ys
   fits-next h = omega (arith, length-append xs ys, p .moved, put-length p)
 
--- what is put at the front of the room is laid there
-pub put-laid : {room after : List ℕ} {os : List Operation} {next : ℕ} → Put room 0 os after next → Fits room 0 os
-    → after ≡ laid (codes os) room
-put-laid {os = os} p h = numbers-laid (as-codes p) (rw (length-codes os) h)
+-- what is put at the front of the room is laid there, and the next place is how many they are
+pub put-laid : {room after : List ℕ} {os : List Operation} {next : ℕ} → Put room 0 os after next → length os ≤ length room
+    → (next ≡ length os) × (after ≡ laid (codes os) room)
+put-laid {os = os} p h = (omega (arith, p .moved), numbers-laid (as-codes p) (rw (length-codes os, zero-add) h))
 
 -- the room that a block takes is what its parts take
 length-parts : (p q r s t : List Operation) → length (p ++ q ++ r ++ s ++ t) ≡ length p + length q + length r + length s + length t

@@ -1,15 +1,16 @@
 // The pass-through block, judged: whether its sixteen bytes are recognised, how many register operations they make, and the operations.
 // `expected` is the packet's length L, `size` its block length.
 ghost use mathlib.Core.Path.{_≡_};
-ghost use mathlib.Core.Bool.{true, cond};
+ghost use mathlib.Core.Bool.{true, cond, not};
 ghost use mathlib.Core.List.{[], _∷_};
 ghost use Prim.Native.Nat.{_≤_, _<_};
+ghost use lib.Dec.{ltb};
 ghost use lib.ListN.{length};
 ghost use Rattle.passthrough.specs.Rows.{Put, Fits, rising, accesses};
 ghost use Rattle.passthrough.specs.Judgements.{judgement, judged};
-ghost use Rattle.rules.specs.Words.{bit as bitTest, bitOf, laid};
+ghost use Rattle.rules.specs.Words.{byte, bit as bitTest, bitOf, laid};
 ghost use Rattle.rules.specs.Packets.{inward, readable, recognised};
-ghost use Rattle.rules.specs.Operations.{Operation, coded, code, codes, only, withBit4, transferByte, polls, selects, writes, reads, commanded, transfers, writeBlock, readBlock, operationsOf};
+ghost use Rattle.rules.specs.Operations.{Operation, Poll, Transfer, coded, code, codes, only, withBit4, transferByte, selects, commanded, writeBlock, readBlock, operationsOf};
 use rules::Direction;
 
 // How a block is judged: not recognised; recognised, with less room than its operations need; or made, and how many they are.
@@ -53,6 +54,9 @@ const TRANSFER: u8 = 0x03;
 const WRITE: u8 = 0x10;
 
 const READ: u8 = 0x20;
+
+// The most operations that a block makes.
+const MOST: usize = 11;
 
 // The registers that the rules name: 1F6h and 1F7h.
 const DEVICE: u8 = 6;
@@ -112,7 +116,7 @@ fn is_recognised(block: &[u8], size: u8, expected: u32, direction: Direction, si
         & (block[13] == 0)
         & (block[14] == 0)
         & (block[15] == 0)
-        & (!is_set(action, TASK_FILE_READ) | is_readable(action, expected, direction))
+        && (!is_set(action, TASK_FILE_READ) || is_readable(action, expected, direction))
 }
 
 fn count(block: &[u8], expected: u32) -> u16
@@ -162,49 +166,50 @@ fn transfer_byte(action: u8, direction: Direction) -> u8
 }
 
 // Poll, unless action bit 2 is set.
-fn put_poll(block: &[u8], operations: &mut [u16]) -> usize
-    requires { ⌜ (length (now block) ≡ 16) × Fits (now operations) 0 (polls (now block)) ⌝ }
-    ensures { λ r. ⌜ Put (now (operations .entry)) 0 (polls (now (block .entry))) (now (operations .exit)) r ⌝ }
+fn put_poll(action: u8, operations: &mut [u16]) -> usize
+    requires { ⌜ Fits (now operations) 0 (only (not (bitTest 2 action)) Poll) ⌝ }
+    ensures { λ r. ⌜ Put (now (operations .entry)) 0 (only (not (bitTest 2 action)) Poll) (now (operations .exit)) r ⌝ }
 {
-    let on = !is_set(block[ACTION], POLL_ALT_STAT_OVERRIDE);
+    let on = !is_set(action, POLL_ALT_STAT_OVERRIDE);
     put(operations, 0, on, POLL, 0)
 }
 
-fn put_select(block: &[u8], operations: &mut [u16], at: usize) -> usize
-    requires { ⌜ (length (now block) ≡ 16) × Fits (now operations) at (selects (now block)) ⌝ }
+fn put_select(action: u8, selection: u8, block: &[u8], operations: &mut [u16], at: usize) -> usize
+    requires { ⌜ (length (now block) ≡ 16) × (action ≡ byte 2 (now block)) × (selection ≡ byte 3 (now block)) × Fits (now operations) at (selects (now block)) ⌝ }
     ensures { λ r. ⌜ Put (now (operations .entry)) at (selects (now (block .entry))) (now (operations .exit)) r ⌝ }
 {
-    let operand = select_byte(block[ACTION], block[SELECTION], block[11]);
+    let operand = select_byte(action, selection, block[11]);
     put(operations, at, true, SELECT, operand)
 }
 
 // Transfer, if L > 0.
 fn put_transfer(
-    block: &[u8],
+    action: u8,
     expected: u32,
     direction: Direction,
     operations: &mut [u16],
     at: usize,
 ) -> usize
-    requires { ⌜ (length (now block) ≡ 16) × Fits (now operations) at (transfers (now block) expected direction) ⌝ }
-    ensures { λ r. ⌜ Put (now (operations .entry)) at (transfers (now (block .entry)) expected direction) (now (operations .exit)) r ⌝ }
+    requires { ⌜ Fits (now operations) at (only (ltb 0 expected) (Transfer (transferByte action direction))) ⌝ }
+    ensures { λ r. ⌜ Put (now (operations .entry)) at (only (ltb 0 expected) (Transfer (transferByte action direction))) (now (operations .exit)) r ⌝ }
 {
-    let operand = transfer_byte(block[ACTION], direction);
+    let operand = transfer_byte(action, direction);
     put(operations, at, expected > 0, TRANSFER, operand)
 }
 
 // Write or read of a register, if it is selected.
 fn put_register(
+    selection: u8,
     block: &[u8],
     writes: bool,
     register: u8,
     operations: &mut [u16],
     at: usize,
 ) -> usize
-    requires { ⌜ (length (now block) ≡ 16) × (register < 8) × Fits (now operations) at (accesses writes (now block) (register ∷ [])) ⌝ }
+    requires { ⌜ (length (now block) ≡ 16) × (selection ≡ byte 3 (now block)) × (register < 8) × Fits (now operations) at (accesses writes (now block) (register ∷ [])) ⌝ }
     ensures { λ r. ⌜ Put (now (operations .entry)) at (accesses writes (now (block .entry)) (register ∷ [])) (now (operations .exit)) r ⌝ }
 {
-    let on = is_set(block[SELECTION], register);
+    let on = is_set(selection, register);
     if writes {
         let content = block[CONTENTS + register as usize];
         return put(operations, at, on, WRITE + register, content);
@@ -213,62 +218,90 @@ fn put_register(
 }
 
 // Writes or reads of the selected registers below n, rising.
-fn put_registers(block: &[u8], writes: bool, n: u8, operations: &mut [u16], at: usize) -> usize
-    requires { ⌜ (length (now block) ≡ 16) × (n ≤ 8) × Fits (now operations) at (accesses writes (now block) (rising n)) ⌝ }
+fn put_registers(
+    selection: u8,
+    block: &[u8],
+    writes: bool,
+    n: u8,
+    operations: &mut [u16],
+    at: usize,
+) -> usize
+    requires { ⌜ (length (now block) ≡ 16) × (selection ≡ byte 3 (now block)) × (n ≤ 8) × Fits (now operations) at (accesses writes (now block) (rising n)) ⌝ }
     ensures { λ r. ⌜ Put (now (operations .entry)) at (accesses writes (now (block .entry)) (rising n)) (now (operations .exit)) r ⌝ }
 {
     let mut next = at;
     for r in 0..n {
-        next = put_register(block, writes, r, operations, next);
+        next = put_register(selection, block, writes, r, operations, next);
     }
     next
 }
 
 // Select, then write 7 if selected. With action bit 1 set, the select follows the place of write 7 instead.
-fn put_command(block: &[u8], operations: &mut [u16], at: usize) -> usize
-    requires { ⌜ (length (now block) ≡ 16) × Fits (now operations) at (commanded (now block)) ⌝ }
+fn put_command(action: u8, selection: u8, block: &[u8], operations: &mut [u16], at: usize) -> usize
+    requires { ⌜ (length (now block) ≡ 16) × (action ≡ byte 2 (now block)) × (selection ≡ byte 3 (now block)) × Fits (now operations) at (commanded (now block)) ⌝ }
     ensures { λ r. ⌜ Put (now (operations .entry)) at (commanded (now (block .entry))) (now (operations .exit)) r ⌝ }
 {
-    if is_set(block[ACTION], DEVICE_SELECTION_OVERRIDE) {
-        let next = put_register(block, true, COMMAND, operations, at);
-        put_select(block, operations, next)
+    if is_set(action, DEVICE_SELECTION_OVERRIDE) {
+        let next = put_register(selection, block, true, COMMAND, operations, at);
+        put_select(action, selection, block, operations, next)
     } else {
-        let next = put_select(block, operations, at);
-        put_register(block, true, COMMAND, operations, next)
+        let next = put_select(action, selection, block, operations, at);
+        put_register(selection, block, true, COMMAND, operations, next)
     }
 }
 
 // Action bit 0 clear: poll; writes of selected 0 to 5; select and write 7; transfer; read 7.
-fn make_writes(block: &[u8], expected: u32, direction: Direction, operations: &mut [u16])
-    requires { ⌜ (length (now block) ≡ 16) × Fits (now operations) 0 (writeBlock (now block) expected direction) ⌝ }
-    ensures { λ r. ⌜ now (operations .exit) ≡ laid (codes (writeBlock (now (block .entry)) expected direction)) (now (operations .entry)) ⌝ }
+fn make_writes(
+    action: u8,
+    selection: u8,
+    block: &[u8],
+    expected: u32,
+    direction: Direction,
+    operations: &mut [u16],
+) -> usize
+    requires { ⌜ (length (now block) ≡ 16) × (action ≡ byte 2 (now block)) × (selection ≡ byte 3 (now block)) × Fits (now operations) 0 (writeBlock (now block) expected direction) ⌝ }
+    ensures { λ r. ⌜ Put (now (operations .entry)) 0 (writeBlock (now (block .entry)) expected direction) (now (operations .exit)) r ⌝ }
 {
-    let at = put_poll(block, operations);
-    let at = put_registers(block, true, 6, operations, at);
-    let at = put_command(block, operations, at);
-    let at = put_transfer(block, expected, direction, operations, at);
-    put(operations, at, true, READ + COMMAND, 0);
+    let at = put_poll(action, operations);
+    let at = put_registers(selection, block, true, 6, operations, at);
+    let at = put_command(action, selection, block, operations, at);
+    let at = put_transfer(action, expected, direction, operations, at);
+    put(operations, at, true, READ + COMMAND, 0)
 }
 
 // Action bit 0 set: poll, select, reads of selected 0 to 7.
-fn make_reads(block: &[u8], operations: &mut [u16])
-    requires { ⌜ (length (now block) ≡ 16) × Fits (now operations) 0 (readBlock (now block)) ⌝ }
-    ensures { λ r. ⌜ now (operations .exit) ≡ laid (codes (readBlock (now (block .entry)))) (now (operations .entry)) ⌝ }
+fn make_reads(action: u8, selection: u8, block: &[u8], operations: &mut [u16]) -> usize
+    requires { ⌜ (length (now block) ≡ 16) × (action ≡ byte 2 (now block)) × (selection ≡ byte 3 (now block)) × Fits (now operations) 0 (readBlock (now block)) ⌝ }
+    ensures { λ r. ⌜ Put (now (operations .entry)) 0 (readBlock (now (block .entry))) (now (operations .exit)) r ⌝ }
 {
-    let at = put_poll(block, operations);
-    let at = put_select(block, operations, at);
-    put_registers(block, false, 8, operations, at);
+    let at = put_poll(action, operations);
+    let at = put_select(action, selection, block, operations, at);
+    put_registers(selection, block, false, 8, operations, at)
 }
 
-fn make(block: &[u8], expected: u32, direction: Direction, operations: &mut [u16])
+// The action and the selection are read once: what is stored in the row cannot change them.
+fn make(block: &[u8], expected: u32, direction: Direction, operations: &mut [u16]) -> usize
     requires { ⌜ (length (now block) ≡ 16) × (length (operationsOf (now block) expected direction) ≤ length (now operations)) ⌝ }
-    ensures { λ r. ⌜ now (operations .exit) ≡ laid (codes (operationsOf (now (block .entry)) expected direction)) (now (operations .entry)) ⌝ }
+    ensures { λ r. ⌜ (r ≡ length (operationsOf (now (block .entry)) expected direction)) × (now (operations .exit) ≡ laid (codes (operationsOf (now (block .entry)) expected direction)) (now (operations .entry))) ⌝ }
 {
-    if is_set(block[ACTION], TASK_FILE_READ) {
-        make_reads(block, operations);
+    let action = block[ACTION];
+    let selection = block[SELECTION];
+    if is_set(action, TASK_FILE_READ) {
+        make_reads(action, selection, block, operations)
     } else {
-        make_writes(block, expected, direction, operations);
+        make_writes(action, selection, block, expected, direction, operations)
     }
+}
+
+// There is less room than the operations need. A row with room for the most that a block makes is not counted for.
+fn is_short(block: &[u8], expected: u32, room: usize) -> bool
+    requires { ⌜ length (now block) ≡ 16 ⌝ }
+    ensures { λ r. ⌜ ((d : Direction) → r ≡ ltb room (length (operationsOf (now (block .entry)) expected d))) ⌝ }
+{
+    if room >= MOST {
+        return false;
+    }
+    room < count(block, expected) as usize
 }
 
 // The operations of a recognised block with room enough go into the lent row.
@@ -288,10 +321,8 @@ pub fn judge(
     if !is_recognised(block, size, expected, direction, signature) {
         return Judgement::Unrecognised;
     }
-    let needed = count(block, expected);
-    if operations.len() < needed as usize {
+    if is_short(block, expected, operations.len()) {
         return Judgement::NoRoom;
     }
-    make(block, expected, direction, operations);
-    Judgement::Made(needed)
+    Judgement::Made(make(block, expected, direction, operations) as u16)
 }

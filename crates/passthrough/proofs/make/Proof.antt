@@ -1,13 +1,17 @@
 -- `passthrough::make` meets its contract.
-use mathlib.Core.Path.{sym, _∙_}
+use mathlib.Core.Path.{refl, sym, _∙_}
 use native.Mathlib.Omega.{arith}
 use borrow.Author.Needs.{needs}
 use Rattle.rules.specs.Operations.{operationsOf}
+use Rattle.passthrough.proofs.Rows.{put-laid}
 use Rattle.passthrough.proofs.make.Statement.{statement}
 use Rattle.passthrough.proofs.make.Tie as tie
 
-shared-slice-read-is-set : tie.Need-shared-slice-read-is-set
-shared-slice-read-is-set c = search needs
+shared-slice-read-action : tie.Need-shared-slice-read-action
+shared-slice-read-action c = search needs
+
+shared-slice-read-selection : tie.Need-shared-slice-read-selection
+shared-slice-read-selection c = search needs
 
 is-set-requires : tie.Need-is-set-requires
 is-set-requires c κs = search needs
@@ -15,14 +19,14 @@ is-set-requires c κs = search needs
 make-reads-requires : tie.Need-make-reads-requires
 unfolding operationsOf
 make-reads-requires c κs =
-    let start = c .before .before .before .before .before .before in
-    (start .pre .0, omega (arith, rw (sym (c .before .before .is-set .ensures) ∙ c .before .if1 .taken) at (start .pre .1)))
+    let start = c .before .before .before .before .before .before .before in
+    (start .pre .0, refl, refl, omega (arith, rw (sym (c .before .before .is-set .ensures) ∙ c .before .if1 .taken) at (start .pre .1)))
 
 make-writes-requires : tie.Need-make-writes-requires
 unfolding operationsOf
 make-writes-requires c κs =
-    let start = c .before .before .before .before .before .before in
-    (start .pre .0, omega (arith, rw (sym (c .before .before .is-set .ensures) ∙ c .before .if1 .left) at (start .pre .1)))
+    let start = c .before .before .before .before .before .before .before in
+    (start .pre .0, refl, refl, omega (arith, rw (sym (c .before .before .is-set .ensures) ∙ c .before .if1 .left) at (start .pre .1)))
 
 same-length : tie.Need-same-length
 same-length c = search needs
@@ -31,7 +35,9 @@ returns : tie.Need-returns
 unfolding operationsOf
 returns c =
     let branch = c .before .before .before .before in
-    rw (sym (branch .before .is-set .ensures) ∙ branch .if1 .taken) (c .before .before .make-reads .ensures)
+    let tested = sym (branch .before .is-set .ensures) ∙ branch .if1 .taken in
+    let room = rw tested at (branch .before .before .before .before .before .before .pre .1) in
+    rw tested (put-laid (c .before .before .make-reads .ensures) room)
 
 same-length-2 : tie.Need-same-length-2
 same-length-2 c = search needs
@@ -40,13 +46,16 @@ returns-2 : tie.Need-returns-2
 unfolding operationsOf
 returns-2 c =
     let branch = c .before .before .before .before in
-    rw (sym (branch .before .is-set .ensures) ∙ branch .if1 .left) (c .before .before .make-writes .ensures)
+    let tested = sym (branch .before .is-set .ensures) ∙ branch .if1 .left in
+    let room = rw tested at (branch .before .before .before .before .before .before .pre .1) in
+    rw tested (put-laid (c .before .before .make-writes .ensures) room)
 
 pub make-spec : {M : Type 1} → statement M
 make-spec =
     tie.close
     (tie.spec
-    shared-slice-read-is-set
+    shared-slice-read-action
+    shared-slice-read-selection
     is-set-requires
     make-reads-requires
     make-writes-requires

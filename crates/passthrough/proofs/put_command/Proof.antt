@@ -9,43 +9,40 @@ use Rattle.passthrough.proofs.Rows.{put-put}
 use Rattle.passthrough.proofs.put_command.Statement.{statement}
 use Rattle.passthrough.proofs.put_command.Tie as tie
 
-shared-slice-read-is-set : tie.Need-shared-slice-read-is-set
-shared-slice-read-is-set c = search needs
-
 is-set-requires : tie.Need-is-set-requires
 is-set-requires c κs = search needs
 
 put-register-requires : tie.Need-put-register-requires
 put-register-requires c κs =
     let tested = c .before .before in
-    let start = tested .before .before .before .before in
+    let start = tested .before .before .before in
     let b = start .args .block .now in
-    let room = rw (sym (tested .is-set .ensures) ∙ c .before .if1 .taken) at (start .pre .1) in
-    (start .pre .0, omega arith, omega (arith, room, length-append (writes b (7 ∷ [])) (selects b)))
+    let room = rw (sym (rw (start .pre .1) at (tested .is-set .ensures)) ∙ c .before .if1 .taken) at (start .pre .3) in
+    (start .pre .0, start .pre .2, omega arith, omega (arith, room, length-append (writes b (7 ∷ [])) (selects b)))
 
 put-select-requires : tie.Need-put-select-requires
 put-select-requires c κs =
     let tested = c .before .before .before .before .before .before in
-    let start = tested .before .before .before .before in
+    let start = tested .before .before .before in
     let b = start .args .block .now in
-    let room = rw (sym (tested .is-set .ensures) ∙ c .before .before .before .before .before .if1 .taken) at (start .pre .1) in
-    (start .pre .0, omega (arith, room, length-append (writes b (7 ∷ [])) (selects b)))
+    let room = rw (sym (rw (start .pre .1) at (tested .is-set .ensures)) ∙ c .before .before .before .before .before .if1 .taken) at (start .pre .3) in
+    (start .pre .0, start .pre .1, start .pre .2, omega (arith, room, length-append (writes b (7 ∷ [])) (selects b)))
 
 put-select-requires-2 : tie.Need-put-select-requires-2
 put-select-requires-2 c κs =
     let tested = c .before .before in
-    let start = tested .before .before .before .before in
+    let start = tested .before .before .before in
     let b = start .args .block .now in
-    let room = rw (sym (tested .is-set .ensures) ∙ c .before .if1 .left) at (start .pre .1) in
-    (start .pre .0, omega (arith, room, length-append (selects b) (writes b (7 ∷ []))))
+    let room = rw (sym (rw (start .pre .1) at (tested .is-set .ensures)) ∙ c .before .if1 .left) at (start .pre .3) in
+    (start .pre .0, start .pre .1, start .pre .2, omega (arith, room, length-append (selects b) (writes b (7 ∷ []))))
 
 put-register-requires-2 : tie.Need-put-register-requires-2
 put-register-requires-2 c κs =
     let tested = c .before .before .before .before .before .before in
-    let start = tested .before .before .before .before in
+    let start = tested .before .before .before in
     let b = start .args .block .now in
-    let room = rw (sym (tested .is-set .ensures) ∙ c .before .before .before .before .before .if1 .left) at (start .pre .1) in
-    (start .pre .0, omega arith, omega (arith, room, length-append (selects b) (writes b (7 ∷ []))))
+    let room = rw (sym (rw (start .pre .1) at (tested .is-set .ensures)) ∙ c .before .before .before .before .before .if1 .left) at (start .pre .3) in
+    (start .pre .0, start .pre .2, omega arith, omega (arith, room, length-append (selects b) (writes b (7 ∷ []))))
 
 same-length : tie.Need-same-length
 same-length c = search needs
@@ -53,7 +50,8 @@ same-length c = search needs
 returns : tie.Need-returns
 returns c =
     let branch = c .before .before .before .before .before .before .before .before in
-    rw (sym (branch .before .is-set .ensures) ∙ branch .if1 .taken)
+    let tested = rw (branch .before .before .before .before .pre .1) at (branch .before .is-set .ensures) in
+    rw (sym tested ∙ branch .if1 .taken)
     (put-put _ _ (c .before .before .before .before .before .before .put-register .ensures) (c .before .before .put-select .ensures))
 
 same-length-2 : tie.Need-same-length-2
@@ -62,14 +60,14 @@ same-length-2 c = search needs
 returns-2 : tie.Need-returns-2
 returns-2 c =
     let branch = c .before .before .before .before .before .before .before .before in
-    rw (sym (branch .before .is-set .ensures) ∙ branch .if1 .left)
+    let tested = rw (branch .before .before .before .before .pre .1) at (branch .before .is-set .ensures) in
+    rw (sym tested ∙ branch .if1 .left)
     (put-put _ _ (c .before .before .before .before .before .before .put-select2 .ensures) (c .before .before .put-register2 .ensures))
 
 pub put-command-spec : {M : Type 1} → statement M
 put-command-spec =
     tie.close
     (tie.spec
-    shared-slice-read-is-set
     is-set-requires
     put-register-requires
     put-select-requires

@@ -8,10 +8,10 @@ use Rattle.passthrough.proofs.put_registers.Statement.{statement}
 use Rattle.passthrough.proofs.put_registers.Tie as tie
 
 abbrev Inv-loop : tie.InvT-loop
-Inv-loop block writes n operations₀ at next₀ r₀ operations next r = (r ≤ n) × Put operations₀ at (accesses writes block (rising r)) operations next
+Inv-loop selection block writes n operations₀ at next₀ r₀ operations next r = (r ≤ n) × Put operations₀ at (accesses writes block (rising r)) operations next
 
 abbrev μ-loop : tie.MeasureT-loop
-μ-loop block writes n operations₀ at next₀ r₀ operations next r = n - r
+μ-loop selection block writes n operations₀ at next₀ r₀ operations next r = n - r
 
 loop-holds : tie.Need-loop-holds Inv-loop μ-loop
 loop-holds c =
@@ -22,8 +22,8 @@ put-register-requires : tie.Need-put-register-requires Inv-loop μ-loop
 put-register-requires c κs =
     let start = c .before .before .before .before .before in
     let turn = c .before .before .loop in
-    let room = fits-register (start .args .writes) (start .args .block .now) (turn .r) (turn .inv .1) (start .args .n) (omega arith) (start .pre .2) in
-    (start .pre .0, omega arith, room)
+    let room = fits-register (start .args .writes) (start .args .block .now) (turn .r) (turn .inv .1) (start .args .n) (omega arith) (start .pre .3) in
+    (start .pre .0, start .pre .1, omega arith, room)
 
 add-r : tie.Need-add-r Inv-loop μ-loop
 add-r c = omega arith

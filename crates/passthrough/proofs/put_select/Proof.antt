@@ -8,12 +8,6 @@ use Rattle.passthrough.proofs.put_select.Tie as tie
 shared-slice-read-select-byte : tie.Need-shared-slice-read-select-byte
 shared-slice-read-select-byte c = search needs
 
-shared-slice-read-select-byte-2 : tie.Need-shared-slice-read-select-byte-2
-shared-slice-read-select-byte-2 c = search needs
-
-shared-slice-read-select-byte-3 : tie.Need-shared-slice-read-select-byte-3
-shared-slice-read-select-byte-3 c = search needs
-
 select-byte-requires : tie.Need-select-byte-requires
 select-byte-requires c κs = search needs
 
@@ -24,16 +18,12 @@ same-length : tie.Need-same-length
 same-length c = search needs
 
 returns : tie.Need-returns
-returns c = rw (c .before .before .before .before .select-byte .ensures) at (c .before .before .put .ensures (Select _) refl)
+returns c =
+    let selected = c .before .before .before .before in
+    let start = selected .before .before .before .before in
+    rw (selected .select-byte .ensures, start .pre .1, start .pre .2) at (c .before .before .put .ensures (Select _) refl)
 
 pub put-select-spec : {M : Type 1} → statement M
 put-select-spec =
     tie.close
-    (tie.spec
-    shared-slice-read-select-byte
-    shared-slice-read-select-byte-2
-    shared-slice-read-select-byte-3
-    select-byte-requires
-    put-requires
-    same-length
-    returns)
+    (tie.spec shared-slice-read-select-byte select-byte-requires put-requires same-length returns)
