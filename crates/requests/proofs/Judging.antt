@@ -1,7 +1,7 @@
 -- Laws by which code judges a request: the table by type and code as one number, and checks that are made in parts.
 use mathlib.Core.Path.{_≡_, refl, sym, ap, _∙_}
 use mathlib.Core.Bool.{Bool, true, false, cond, not, _&&_, and-eq-true-iff}
-use mathlib.Core.List.{List, [], _∷_}
+use mathlib.Core.List.{List, [], _∷_, _++_}
 use Prim.Native.Nat.{ℕ, _+_, _*_, _<_}
 use native.Mathlib.Omega.{arith}
 use lib.Dec.{eqb, ltb}
@@ -10,13 +10,13 @@ use borrow.Author.Tests.{eqb-true, eqb-false, ne-eqb, eq-eqb, ltb-true}
 use Rattle.rules.specs.declared.Request.{Request}
 use Rattle.rules.specs.declared.Request.the-variants.{Unknown}
 use Rattle.rules.specs.declared.Setup.{Setup}
-use Rattle.rules.specs.Words.{first}
+use Rattle.rules.specs.Words.{Check, first}
 use Rattle.rules.specs.Requests.{Row, table, lookup, setupOf, requestOf, needsConfiguration}
 use Rattle.rules.specs.Answers.{tableChecks, dataChecks, requestChecks, requestAnswer}
-use Rattle.rules.proofs.Checks.{first-append}
+use Rattle.rules.proofs.Checks.{numbered, first-append}
 use Rattle.requests.specs.declared.Judgement.{Judgement}
-use Rattle.requests.specs.declared.Judgement.the-variants.{Refused, Granted}
-use Rattle.requests.specs.Judgements.{judged}
+use Rattle.requests.specs.declared.Judgement.the-variants.{Refused}
+use Rattle.requests.specs.Judgements.{judged, judgedBy}
 
 -- ---- the table
 
@@ -72,39 +72,57 @@ apart known (r ∷ rs) pair s h =
 pub unknown-at : (s : Setup) (word : ℕ) → s .kind < 256 → word ≡ s .kind + 256 * s .code → Apart (Unit {0}) table word → requestOf s ≡ Unknown
 unknown-at s word h e k = request-at s word word h e refl ∙ apart (Unit {0}) table word s k .1
 
--- ---- checks in parts
+-- ---- the judgement of a request
 
--- a request that is not answered 4 is answered by the checks that go by the request, and where none of them applies by those of its data
-module _ (configured : Bool) (m : ℕ) (s : Setup) (r : Request) (host room told : ℕ) (ready : (not configured && needsConfiguration (s .kind)) ≡ false)
-    (judged : told ≡ first (tableChecks m s r)) where
-  in-parts : first (requestChecks configured m 8 s r host room) ≡ cond (eqb told 0) (first (dataChecks s host room)) told
-  in-parts = rw (ready, judged) (first-append (tableChecks m s r) (dataChecks s host room) refl)
+module _ (m : ℕ) (s : Setup) (host room : ℕ) where
+  abbrev judgement : Request → Judgement
+  judgement r = judgedBy r s (first (tableChecks m s r ++ dataChecks s host room))
 
-  pub table-decides : (told ≡ 0 → ⊥) → told ≡ first (requestChecks configured m 8 s r host room)
-  table-decides n = sym (rw (ne-eqb told 0 n) at in-parts)
+  -- of the one that the setup makes
+  pub judged-as : {j : Judgement} {r : Request} → requestOf s ≡ r → j ≡ judgement r → j ≡ judgement (requestOf s)
+  judged-as e k = k ∙ ap judgement (sym e)
 
-  pub data-decides : told ≡ 0 → first (dataChecks s host room) ≡ first (requestChecks configured m 8 s r host room)
-  data-decides z = sym (rw (eq-eqb told 0 z) at in-parts)
+  -- of one that it makes where its fields fit
+  pub judged-where : {j : Judgement} {fit test : Bool} (r : Request) (n : ℕ) → requestOf s ≡ cond (test && eqb (s .length) n) r Unknown → fit ≡ test
+      → j ≡ cond (fit && eqb (s .length) n) (judgement r) (Refused 5) → j ≡ judgement (requestOf s)
+  judged-where {test} r n e f k = judged-as e (rw f at k ∙ go (test && eqb (s .length) n))
+    where
+      go : (t : Bool) → cond t (judgement r) (Refused 5) ≡ judgement (cond t r Unknown)
+      go true = refl
+      go false = refl
 
--- ---- the judgement
+-- ---- checks in two parts: an answer is that of the first part, and where none of it applies the second decides
+
+module _ (r : Request) (s : Setup) (cs ds : List Check) (n : numbered cs ≡ true) {answer : ℕ} (by : answer ≡ first cs) where
+  in-parts : first (cs ++ ds) ≡ cond (eqb answer 0) (first ds) answer
+  in-parts = rw by (first-append cs ds n)
+
+  pub refused-by : (answer ≡ 0 → ⊥) → Refused answer ≡ judgedBy r s (first (cs ++ ds))
+  refused-by h =
+      let z = ne-eqb answer 0 h in
+      rw (rw z at in-parts, z)
+
+  pub left-to : {j : Judgement} → answer ≡ 0 → j ≡ judgedBy r s (first ds) → j ≡ judgedBy r s (first (cs ++ ds))
+  left-to z k = rw (in-parts, z) k
+
+-- ---- the judgement of a setup
 
 module _ (configured : Bool) (m : ℕ) (setup : List ℕ) (host room : ℕ) where
-  abbrev judgement : Judgement
-  judgement = judged (requestAnswer configured m setup host room) (setupOf setup)
+  abbrev verdict : Judgement
+  verdict = judged (requestAnswer configured m setup host room) (setupOf setup)
 
-  pub not-eight : (length setup ≡ 8 → ⊥) → Refused 1 ≡ judgement
+  pub not-eight : (length setup ≡ 8 → ⊥) → Refused 1 ≡ verdict
   unfolding requestAnswer
   not-eight n = rw (ne-eqb (length setup) 8 n)
 
   -- by what was read of an eight-byte setup
-  module _ {s : Setup} {r : Request} {n : ℕ} (l : length setup ≡ 8) (is : s ≡ setupOf setup) (by : r ≡ requestOf s)
-      (told : n ≡ first (requestChecks configured m 8 s r host room)) where
-    answered : requestAnswer configured m setup host room ≡ n
+  module _ {s : Setup} (l : length setup ≡ 8) (is : s ≡ setupOf setup) where
+    read : judged (first (requestChecks configured m 8 s (requestOf s) host room)) s ≡ verdict
     unfolding requestAnswer
-    answered = rw (l, told, by, is)
+    read = rw (l, is)
 
-    pub refused-by : (n ≡ 0 → ⊥) → Refused n ≡ judgement
-    refused-by h = rw (answered, ne-eqb n 0 h)
+    pub unready : (not configured && needsConfiguration (s .kind)) ≡ true → Refused 4 ≡ verdict
+    unready t = rw t at read
 
-    pub granted-by : n ≡ 0 → Granted r s ≡ judgement
-    granted-by h = rw (answered, h, by, is)
+    pub ready : {j : Judgement} → (not configured && needsConfiguration (s .kind)) ≡ false → j ≡ judgement m s host room (requestOf s) → j ≡ verdict
+    ready t k = k ∙ (rw t at read)

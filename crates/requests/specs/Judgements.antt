@@ -1,11 +1,15 @@
 -- What a judgement says: the number of a refusal, or the request that is granted, with its fields.
 use Prim.Native.Nat.{ℕ}
 use mathlib.Core.Bool.{cond}
+use Rattle.rules.specs.declared.Request.{Request}
 use Rattle.rules.specs.declared.Setup.{Setup}
 use Rattle.rules.specs.Requests.{requestOf}
 use Rattle.rules.specs.Step.{done}
 use Rattle.requests.specs.declared.Judgement.{Judgement}
 use Rattle.requests.specs.declared.Judgement.the-variants.{Refused, Granted}
 
+abbrev pub judgedBy : Request → Setup → ℕ → Judgement
+judgedBy r s answer = cond (done answer) (Granted r s) (Refused answer)
+
 abbrev pub judged : ℕ → Setup → Judgement
-judged answer s = cond (done answer) (Granted (requestOf s) s) (Refused answer)
+judged answer s = judgedBy (requestOf s) s answer

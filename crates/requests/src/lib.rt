@@ -1,13 +1,14 @@
 // Control requests, judged: the fields of a setup, the request that they make, and the answer that the checks give.
 ghost use mathlib.Core.Path.{_≡_};
-ghost use mathlib.Core.Bool.{true, cond, not, _&&_};
+ghost use mathlib.Core.Bool.{true, cond, not, _&&_, _||_};
+ghost use mathlib.Core.List.{_++_};
 ghost use lib.Dec.{eqb};
 ghost use lib.ListN.{length};
-ghost use Rattle.requests.specs.Judgements.{judged};
+ghost use Rattle.requests.specs.Judgements.{judged, judgedBy};
 ghost use Rattle.rules.specs.Words.{first};
 ghost use Rattle.rules.specs.Requests.{setupOf, requestOf, needsConfiguration, address, onePage};
-ghost use Rattle.rules.specs.Held.{sizeFor};
-ghost use Rattle.rules.specs.Answers.{programChecks, placeChecks, tableChecks, dataChecks, requestChecks, requestAnswer};
+ghost use Rattle.rules.specs.Held.{sizeFor, bulkOut, bulkIn};
+ghost use Rattle.rules.specs.Answers.{programChecks, placeChecks, tableChecks, dataChecks, requestAnswer};
 use rules::Request;
 use rules::Setup;
 use rules::answers::CROSSES_PAGE;
@@ -48,41 +49,23 @@ fn setup_of(setup: &[u8]) -> Setup
     }
 }
 
-// The request, where the fields that the table fixes for it fit: wValue and wIndex, and a wLength of n.
-fn kept(r: Request, fit: bool, length: u16, n: u16) -> Request
-    ensures { λ q. ⌜ q ≡ cond (fit && eqb length n) r Request.Unknown ⌝ }
+// wValue and wIndex, as the table fixes them.
+fn is_zero(s: Setup) -> bool
+    ensures { λ r. ⌜ r ≡ (eqb (s .value) 0 && eqb (s .index) 0) ⌝ }
 {
-    if fit & (length == n) {
-        r
-    } else {
-        Request::Unknown
-    }
+    (s.value == 0) & (s.index == 0)
 }
 
-// The table, by type and code as one number, the type its low byte.
-fn request_of(s: Setup) -> Request
-    ensures { λ r. ⌜ r ≡ requestOf s ⌝ }
+fn is_configuration(s: Setup) -> bool
+    ensures { λ r. ⌜ r ≡ ((eqb (s .value) 0 || eqb (s .value) 2) && eqb (s .index) 0) ⌝ }
 {
-    let value = s.value;
-    let index = s.index;
-    let length = s.length;
-    // wValue and wIndex, as the table fixes them.
-    let configuration = ((value == 0) | (value == 2)) & (index == 0);
-    let pipe = (value == 0) & ((index == BULK_OUT) | (index == BULK_IN));
-    let neither = (value == 0) & (index == 0);
-    match lent::word(s.kind, s.code) {
-        0x0900 => kept(Request::SetConfiguration, configuration, length, 0),
-        0x0880 => kept(Request::GetConfiguration, neither, length, 1),
-        0x0102 => kept(Request::ClearFeature, pipe, length, 0),
-        0x0082 => kept(Request::GetStatus, pipe, length, 2),
-        0xFEA1 => kept(Request::GetMaxLun, neither, length, 1),
-        0xFF21 => kept(Request::MassStorageReset, neither, length, 0),
-        0x0140 => Request::LoadConfigData,
-        0x02C0 => Request::ReadConfigData,
-        0x0340 => kept(Request::SoftReset, neither, length, 0),
-        0x01C0 => Request::BogusRead,
-        _ => Request::Unknown,
-    }
+    ((s.value == 0) | (s.value == 2)) & (s.index == 0)
+}
+
+fn is_pipe(s: Setup) -> bool
+    ensures { λ r. ⌜ r ≡ (eqb (s .value) 0 && (eqb (s .index) bulkOut || eqb (s .index) bulkIn)) ⌝ }
+{
+    (s.value == 0) & ((s.index == BULK_OUT) | (s.index == BULK_IN))
 }
 
 // The type field says class or vendor, or the recipient is an endpoint (USB 2.0, 9.3).
@@ -153,25 +136,6 @@ fn address_answer(writes: bool, size: u32, place: u16, start: u16, n: u16) -> u8
     DONE
 }
 
-// Checks 5 to 10: the request is in the table, and its place and address are good where it has them.
-fn table_answer(r: Request, size: u32, s: Setup) -> u8
-    ensures { λ a. ⌜ a ≡ first (tableChecks size s r) ⌝ }
-{
-    match r {
-        Request::Unknown => NOT_IN_TABLE,
-        Request::LoadConfigData => address_answer(true, size, s.value, s.index, s.length),
-        Request::ReadConfigData => address_answer(false, size, s.value, s.index, s.length),
-        Request::SetConfiguration
-        | Request::GetConfiguration
-        | Request::ClearFeature
-        | Request::GetStatus
-        | Request::GetMaxLun
-        | Request::MassStorageReset
-        | Request::SoftReset
-        | Request::BogusRead => DONE,
-    }
-}
-
 // Checks 2 and 3: the host sends wLength bytes where the type is below 0x80, else it is sent them.
 fn data_answer(s: Setup, host: usize, room: usize) -> u8
     ensures { λ a. ⌜ a ≡ first (dataChecks s host room) ⌝ }
@@ -192,25 +156,69 @@ fn data_answer(s: Setup, host: usize, room: usize) -> u8
     DONE
 }
 
-// The answer to a setup of 8 bytes, by "4, 5, 6, 7, 8, 9, 10, 2, 3".
-fn answer_to(configured: bool, size: u32, s: Setup, r: Request, host: usize, room: usize) -> u8
-    ensures { λ a. ⌜ a ≡ first (requestChecks configured size 8 s r host room) ⌝ }
-{
-    if !configured & needs_configuration(s.kind) {
-        return UNCONFIGURED;
-    }
-    let answer = table_answer(r, size, s);
-    if answer != DONE {
-        return answer;
-    }
-    data_answer(s, host, room)
-}
-
 // M, for a slice of n bytes.
 fn size_of(n: usize) -> u32
     ensures { λ r. ⌜ r ≡ sizeFor n ⌝ }
 {
     if n < 2048 { n as u32 } else { 2048 }
+}
+
+// A request of the table, with its place and address good where it has them: granted, unless check 2 or 3 refuses its data.
+fn granted(r: Request, s: Setup, host: usize, room: usize) -> Judgement
+    ensures { λ j. ⌜ j ≡ judgedBy r s (first (dataChecks s host room)) ⌝ }
+{
+    let answer = data_answer(s, host, room);
+    if answer != DONE {
+        return Judgement::Refused(answer);
+    }
+    Judgement::Granted(r, s)
+}
+
+// A request whose fields the table fixes: whether its wValue and wIndex fit, and a wLength of n.
+fn fixed(r: Request, fit: bool, n: u16, s: Setup, host: usize, room: usize) -> Judgement
+    ensures { λ j. ⌜ j ≡ cond (fit && eqb (s .length) n) (judgedBy r s (first (dataChecks s host room))) (Judgement.Refused 5) ⌝ }
+{
+    if fit & (s.length == n) {
+        return granted(r, s, host, room);
+    }
+    Judgement::Refused(NOT_IN_TABLE)
+}
+
+// A request that has a place. `memory` is the length of the memory part.
+fn placed(r: Request, writes: bool, memory: usize, s: Setup, host: usize, room: usize) -> Judgement
+    ensures { λ j. ⌜ j ≡ judgedBy r s (first (placeChecks true writes (sizeFor memory) (s .value) (s .index) (s .length) ++ dataChecks s host room)) ⌝ }
+{
+    let answer = address_answer(writes, size_of(memory), s.value, s.index, s.length);
+    if answer != DONE {
+        return Judgement::Refused(answer);
+    }
+    granted(r, s, host, room)
+}
+
+// The table, by type and code as one number, the type its low byte.
+fn looked_up(memory: usize, s: Setup, host: usize, room: usize) -> Judgement
+    ensures { λ j. ⌜ j ≡ judged (first (tableChecks (sizeFor memory) s (requestOf s) ++ dataChecks s host room)) s ⌝ }
+{
+    match lent::word(s.kind, s.code) {
+        0x0900 => fixed(
+            Request::SetConfiguration,
+            is_configuration(s),
+            0,
+            s,
+            host,
+            room,
+        ),
+        0x0880 => fixed(Request::GetConfiguration, is_zero(s), 1, s, host, room),
+        0x0102 => fixed(Request::ClearFeature, is_pipe(s), 0, s, host, room),
+        0x0082 => fixed(Request::GetStatus, is_pipe(s), 2, s, host, room),
+        0xFEA1 => fixed(Request::GetMaxLun, is_zero(s), 1, s, host, room),
+        0xFF21 => fixed(Request::MassStorageReset, is_zero(s), 0, s, host, room),
+        0x0140 => placed(Request::LoadConfigData, true, memory, s, host, room),
+        0x02C0 => placed(Request::ReadConfigData, false, memory, s, host, room),
+        0x0340 => fixed(Request::SoftReset, is_zero(s), 0, s, host, room),
+        0x01C0 => granted(Request::BogusRead, s, host, room),
+        _ => Judgement::Refused(NOT_IN_TABLE),
+    }
 }
 
 // `memory`, `host` and `room` are lengths: of the memory part, of the data from the host, and of the reply buffer.
@@ -221,10 +229,8 @@ pub fn judge(configured: bool, memory: usize, setup: &[u8], host: usize, room: u
         return Judgement::Refused(SETUP_LENGTH);
     }
     let s = setup_of(setup);
-    let r = request_of(s);
-    let answer = answer_to(configured, size_of(memory), s, r, host, room);
-    if answer != DONE {
-        return Judgement::Refused(answer);
+    if !configured && needs_configuration(s.kind) {
+        return Judgement::Refused(UNCONFIGURED);
     }
-    Judgement::Granted(r, s)
+    looked_up(memory, s, host, room)
 }

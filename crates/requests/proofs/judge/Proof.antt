@@ -1,6 +1,9 @@
 -- `requests::judge` meets its contract.
+use mathlib.Core.Path.{sym, _∙_}
+use mathlib.Core.Logic.{⊎-elim}
 use borrow.Author.Needs.{needs}
-use Rattle.requests.proofs.Judging.{not-eight, refused-by, granted-by}
+use Rattle.rules.specs.Held.{sizeFor}
+use Rattle.requests.proofs.Judging.{not-eight, unready, ready}
 use Rattle.requests.proofs.judge.Statement.{statement}
 use Rattle.requests.proofs.judge.Tie as tie
 
@@ -10,24 +13,26 @@ returns c = not-eight _ _ _ _ _ (c .if1 .taken)
 setup-of-requires : tie.Need-setup-of-requires
 setup-of-requires c κs = search needs
 
-request-of-requires : tie.Need-request-of-requires
-request-of-requires c κs = search needs
-
-size-of-requires : tie.Need-size-of-requires
-size-of-requires c κs = search needs
-
-answer-to-requires : tie.Need-answer-to-requires
-answer-to-requires c κs = search needs
+needs-configuration-requires : tie.Need-needs-configuration-requires
+needs-configuration-requires c κs = search needs
 
 returns-2 : tie.Need-returns-2
 returns-2 c =
-    let start = c .before .before .before .before .before .before .before in
-    refused-by (start .args .configured) _ (start .args .setup .now) _ _ (c .before .before .before .before .before .if1 .left) (c .before .before .before .before .setup-of .ensures) (c .before .before .before .request-of .ensures) (rw (c .before .before .size-of .ensures) at (c .before .answer-to .ensures)) (c .if2 .taken)
+    let a = c .before .before .before .before .before .before .args in
+    unready (a .configured) (sizeFor (a .memory)) (a .setup .now) (a .host) (a .room)
+    (c .before .before .before .before .if1 .left) (c .before .before .before .setup-of .ensures)
+    (rw (c .before .before .if2 .taken) (sym (c .before .needs-configuration .ensures) ∙ c .if3 .taken))
+
+looked-up-requires : tie.Need-looked-up-requires
+looked-up-requires c κs = search needs
 
 returns-3 : tie.Need-returns-3
 returns-3 c =
-    let start = c .before .before .before .before .before .before .before in
-    granted-by (start .args .configured) _ (start .args .setup .now) _ _ (c .before .before .before .before .before .if1 .left) (c .before .before .before .before .setup-of .ensures) (c .before .before .before .request-of .ensures) (rw (c .before .before .size-of .ensures) at (c .before .answer-to .ensures)) (c .if2 .left)
+    let a = c .before .before .before .before .before .args in
+    ready (a .configured) (sizeFor (a .memory)) (a .setup .now) (a .host) (a .room)
+    (c .before .before .before .if1 .left) (c .before .before .setup-of .ensures)
+    (⊎-elim (λ w. rw (w .0 .taken) (sym (w .1 .ensures) ∙ w .2 .left)) (λ w. rw (w .left)) (c .before .if2 .came))
+    (c .looked-up .ensures)
 
 pub judge-spec : {M : Type 1} → statement M
 judge-spec =
@@ -35,8 +40,7 @@ judge-spec =
     (tie.spec
     returns
     setup-of-requires
-    request-of-requires
-    size-of-requires
-    answer-to-requires
+    needs-configuration-requires
     returns-2
+    looked-up-requires
     returns-3)
