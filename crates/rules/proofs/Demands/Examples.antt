@@ -1,5 +1,5 @@
 -- The P examples and the story of a stop, computed.
-use mathlib.Core.Path.{_≡_, refl}
+use mathlib.Core.Path.{refl}
 use Rattle.rules.specs.Requests.{requestOf, address, onePage}
 use Rattle.rules.specs.Packets.{valid, meaningful, recognised}
 use Rattle.rules.specs.Operations.{operationsOf}

@@ -10,7 +10,6 @@ use borrow.Author.Tests.{ltb-true, eqb-true, eqb-false, lt-ltb}
 use Rattle.rules.specs.declared.Direction.{Direction}
 use Rattle.rules.specs.declared.Direction.the-variants.{In, Out}
 use Rattle.rules.specs.Words.{byte, bit, bitOf, one}
-use Rattle.rules.specs.Packets.{inward}
 use Rattle.rules.specs.Operations.{Operation, Poll, Select, Write, Read, Transfer}
 use Rattle.rules.specs.Operations.{action, selected, content, only, withBit4, selectByte, transferByte, operationsOf}
 use Rattle.rules.specs.Step.{step}

@@ -1,11 +1,11 @@
 -- Demand 1, proved.
-use mathlib.Core.Path.{_≡_, refl}
+use mathlib.Core.Path.{refl}
 use lib.ListN.{length}
 use borrow.Author.Tests.{ne-eqb}
-use Rattle.rules.specs.Held.{World, sizeOf}
+use Rattle.rules.specs.Held.{sizeOf}
 use Rattle.rules.specs.Requests.{setupOf, requestOf}
 use Rattle.rules.specs.Answers.{requestChecks, requestAnswer, packetChecks, packetAnswer, reportChecks, reportAnswer, statusChecks, statusAnswer}
-use Rattle.rules.specs.Step.{Event, BusReset, Control, Packet, Report, StatusRequest, operationsFor, answer, step}
+use Rattle.rules.specs.Step.{BusReset, Control, Packet, Report, StatusRequest, operationsFor, answer, step}
 use Rattle.rules.specs.Demands.Refusals.{Refusals, numbers, among, Numbered}
 use Rattle.rules.proofs.Checks.{answer-has}
 

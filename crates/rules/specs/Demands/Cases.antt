@@ -8,7 +8,6 @@ use Rattle.rules.specs.declared.Bridge.{Bridge}
 use Rattle.rules.specs.declared.Direction.{Direction}
 use Rattle.rules.specs.declared.Direction.the-variants.{None, In, Out}
 use Rattle.rules.specs.declared.Phase.the-variants.{Busy, StatusWaiting}
-use Rattle.rules.specs.declared.Status.{Status}
 use Rattle.rules.specs.declared.Status.the-variants.{Passed, Failed, PhaseError}
 use Rattle.rules.specs.Words.{one}
 use Rattle.rules.specs.Held.{World, inPhase, halting}

@@ -1,12 +1,12 @@
 -- Demand 2, operations: what each action bit, the direction and L add, move or change in the list, and how long it is.
 use mathlib.Core.Path.{_≡_}
-use mathlib.Core.Bool.{Bool, true, false, cond, not}
+use mathlib.Core.Bool.{cond, not}
 use mathlib.Core.List.{List, [], _∷_, _++_}
 use Prim.Native.Nat.{ℕ, _+_, _-_, _*_, _<_, _≤_}
 use lib.ListN.{length}
 use lib.Dec.{ltb}
 use Rattle.rules.specs.declared.Direction.{Direction}
-use Rattle.rules.specs.declared.Direction.the-variants.{None, In, Out}
+use Rattle.rules.specs.declared.Direction.the-variants.{In, Out}
 use Rattle.rules.specs.Words.{byte, bit, bitOf, one}
 use Rattle.rules.specs.Held.{World}
 use Rattle.rules.specs.Packets.{commandOf, blockOf, directionOf, recognises}

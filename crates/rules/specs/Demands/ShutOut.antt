@@ -1,13 +1,13 @@
 -- The bridges that document 01 says are shut out, each as a machine of its own, and the demand that each breaks.
-use mathlib.Core.Bool.{Bool, true, false, cond}
-use mathlib.Core.List.{List, [], _∷_, _++_}
+use mathlib.Core.Bool.{cond}
+use mathlib.Core.List.{List, [], _∷_}
 use Prim.Native.Nat.{ℕ}
 use lib.ListN.{length, replicate}
 use Rattle.rules.specs.declared.Phase.the-variants.{StatusWaiting}
 use Rattle.rules.specs.declared.Status.the-variants.{Passed}
 use Rattle.rules.specs.Held.{World, world, holding, inPhase, isStopped}
 use Rattle.rules.specs.Packets.{commandOf}
-use Rattle.rules.specs.Step.{Event, BusReset, Control, Packet, Report, StatusRequest, Outcome, Machine, done, damaged, given, step}
+use Rattle.rules.specs.Step.{BusReset, Control, Packet, Report, StatusRequest, Outcome, Machine, damaged, given, step}
 use Rattle.rules.specs.Demands.Examples.{Examples}
 use Rattle.rules.specs.Demands.Refusals.{Refusals}
 use Rattle.rules.specs.Demands.Requests.{ExactWrites, ExactReads}
