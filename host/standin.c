@@ -6,17 +6,46 @@
 #include <stdbool.h>
 #include <string.h>
 
-_Static_assert(sizeof(struct second_bridge) <= THRANDUE_IMAGE, "an image holds a second bridge");
+/* The numbers as they lie in memory, the configuration bytes, and all the rest in one byte. */
+enum {
+    TAG = 0,
+    RESIDUE = 4,
+    BYTES = 8,
+    REST = BYTES + SECOND_CONFIGURATION_BYTES
+};
+
+_Static_assert(REST + 1 == THRANDUE_IMAGE, "an image holds a second bridge");
+
+/* In the byte for the rest: two bits for the direction or the status, three for the phase, two for
+ * the halts, and one for the configuration, which is 0 or 2. */
+enum {
+    PHASE = 2,
+    HALTS = 5,
+    CONFIGURED = 7
+};
 
 static bool load(struct second_bridge *bridge, const uint8_t *image, size_t image_len) {
     if (image_len != THRANDUE_IMAGE)
         return false;
-    memcpy(bridge, image, sizeof *bridge);
+    memcpy(&bridge->tag, image + TAG, sizeof bridge->tag);
+    memcpy(&bridge->residue, image + RESIDUE, sizeof bridge->residue);
+    memcpy(bridge->bytes, image + BYTES, sizeof bridge->bytes);
+    bridge->direction = image[REST] & 3;
+    bridge->status = image[REST] & 3;
+    bridge->phase = image[REST] >> PHASE & 7;
+    bridge->halts = image[REST] >> HALTS & 3;
+    bridge->configuration = (uint8_t)(image[REST] >> CONFIGURED << 1);
     return true;
 }
 
 static uint32_t store(uint8_t *image, const struct second_bridge *bridge, uint32_t outcome) {
-    memcpy(image, bridge, sizeof *bridge);
+    unsigned lowest = bridge->phase == SECOND_BUSY ? bridge->direction : bridge->status;
+    memcpy(image + TAG, &bridge->tag, sizeof bridge->tag);
+    memcpy(image + RESIDUE, &bridge->residue, sizeof bridge->residue);
+    memcpy(image + BYTES, bridge->bytes, sizeof bridge->bytes);
+    image[REST] =
+        (uint8_t)(lowest | (unsigned)bridge->phase << PHASE | (unsigned)bridge->halts << HALTS |
+                  (unsigned)bridge->configuration >> 1 << CONFIGURED);
     return outcome;
 }
 

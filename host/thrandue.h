@@ -17,7 +17,7 @@ extern "C" {
  * memory is lent at every thrandue_control, and nobody else writes it; one call at a time. A slice
  * of length 0 may be NULL. Any length and content of every slice, and any number, gets an answer.
  */
-#define THRANDUE_IMAGE 32
+#define THRANDUE_IMAGE 25
 
 /* Every event returns an outcome: the answer in the low byte, and above it how many reply bytes or
  * operations were handed out. They stand at the front of the lent room, and the rest of the room is

@@ -21,7 +21,7 @@ use Rattle.control.specs.Granted.{Granted}
 module _ (w : World) (setup host room : List ℕ) where
   -- what the bridge leaves, by the judgement
   abbrev By : Judgement → Type 0
-  By (Refused n) = left n 0 (w .bridge) (w .memory) room ≡ leaves w (Control setup host) room
+  By (Refused n) = left n 0 true (w .bridge) (w .memory) room ≡ leaves w (Control setup host) room
   By (Grants r s) = Granted r s host w (length room) × (served r s host w room ≡ leaves w (Control setup host) room)
 
   right : length (w .bridge .bytes) ≡ 16 → By (judged (controlAnswer w setup host room) (setupOf setup))

@@ -1,7 +1,7 @@
 -- No second outcome: two results that meet a public function's promise are equal, and so are two outcomes of an event with the lent
 -- room as they leave it.
 use mathlib.Core.Path.{_≡_, ap}
-use mathlib.Core.Bool.{Bool}
+use mathlib.Core.Bool.{Bool, true, false}
 use mathlib.Core.List.{List, []}
 use Prim.Native.Nat.{ℕ}
 use Rattle.rules.specs.declared.Bridge.{Bridge}
@@ -17,7 +17,7 @@ use Rattle.held.specs.Outcomes.{outcome, Answers}
 
 -- an outcome, out of all that a call leaves
 abbrev pub outcomeOf : Left → Outcome
-outcomeOf l = outcome (l .answer) (l .count) (l .bridge)
+outcomeOf l = outcome (l .answer) (l .count) (l .kept) (l .bridge)
 
 pub told : (b : Bridge) (event : ℕ → Event) (room : List ℕ) (o o' : Outcome) (now now' : List ℕ) → Answers b event room o now → Answers b event room o' now'
     → (o ≡ o') × (now ≡ now')
@@ -28,8 +28,11 @@ told b event room o o' now now' p q =
 pub «bus_reset» : (b : Bridge) (o o' : Outcome) → Answers b (λ n. BusReset) [] o [] → Answers b (λ n. BusReset) [] o' [] → o ≡ o'
 «bus_reset» b o o' p q = told b (λ n. BusReset) [] o o' [] [] p q .0
 
-pub answered : (answer : ℕ) (b : Bridge) (r r' : Outcome) → r ≡ outcome answer 0 b → r' ≡ outcome answer 0 b → r ≡ r'
-answered answer b r r' p q = only p q
+pub refused : (answer : ℕ) (b : Bridge) (r r' : Outcome) → r ≡ outcome answer 0 true b → r' ≡ outcome answer 0 true b → r ≡ r'
+refused answer b r r' p q = only p q
+
+pub done : (b : Bridge) (r r' : Outcome) → r ≡ outcome 0 0 false b → r' ≡ outcome 0 0 false b → r ≡ r'
+done b r r' p q = only p q
 
 pub fresh : (configured : Bool) (b r r' : Bridge) → r ≡ freshened configured b → r' ≡ freshened configured b → r ≡ r'
 fresh configured b r r' p q = only p q

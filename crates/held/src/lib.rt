@@ -1,5 +1,6 @@
 // What every event is written with: its outcome, and the bridge changed in one respect. The bus reset is such a change.
 ghost use mathlib.Core.Path.{_≡_};
+ghost use mathlib.Core.Bool.{true, false};
 ghost use mathlib.Core.List.{[]};
 ghost use Rattle.held.specs.Outcomes.{outcome, Answers};
 ghost use Rattle.rules.specs.Held.{fresh as freshened, inPhase, halted as marked, halting, isStopped};
@@ -10,20 +11,34 @@ use rules::Halts;
 use rules::Phase;
 use rules::answers;
 
-// The answer's number, how many bytes or operations were handed out, and the bridge as the event leaves it.
+// The answer's number, how many bytes or operations were handed out, whether the bridge was kept as it is, and the bridge as the event
+// leaves it.
 pub struct Outcome {
     pub answer: u8,
     pub count: u16,
+    pub kept: bool,
     pub bridge: Bridge,
 }
 
-// An answer that hands out nothing.
-pub fn answered(answer: u8, b: Bridge) -> Outcome
-    ensures { λ r. ⌜ r ≡ outcome answer 0 b ⌝ }
+pub fn refused(answer: u8, b: Bridge) -> Outcome
+    ensures { λ r. ⌜ r ≡ outcome answer 0 true b ⌝ }
 {
     Outcome {
         answer: answer,
         count: 0,
+        kept: true,
+        bridge: b,
+    }
+}
+
+// Done, and nothing is handed out.
+pub fn done(b: Bridge) -> Outcome
+    ensures { λ r. ⌜ r ≡ outcome 0 0 false b ⌝ }
+{
+    Outcome {
+        answer: answers::DONE,
+        count: 0,
+        kept: false,
         bridge: b,
     }
 }
@@ -46,19 +61,21 @@ pub fn fresh(configured: bool, b: Bridge) -> Bridge
 pub fn bus_reset(b: Bridge) -> Outcome
     ensures { λ r. ⌜ Answers b (λ n. BusReset) [] r [] ⌝ }
 {
-    answered(answers::DONE, fresh(false, b))
+    done(fresh(false, b))
 }
 
 pub fn in_phase(next: Phase, b: Bridge) -> Bridge
     ensures { λ r. ⌜ r ≡ inPhase next b ⌝ }
 {
     let bytes = b.bytes;
-    let halts = b.halts;
     Bridge {
         configured: b.configured,
         bytes: bytes,
         phase: next,
-        halts: halts,
+        halts: Halts {
+            outward: b.halts.outward,
+            inward: b.halts.inward,
+        },
     }
 }
 

@@ -48,7 +48,7 @@ module _ (b : Bridge) (p room : List ℕ) (a : Awaits b) where
   left-checks = rw (a .configured, a .awaits, a .runs)
 
   module _ {r : Bool} (v : r ≡ valid p) where
-    pub not-valid : not r ≡ true → Told b (Packet p) room 13 0 (stop b) room
+    pub not-valid : not r ≡ true → Told b (Packet p) room 13 0 false (stop b) room
     not-valid h = packet-refused b p room 13 (left-checks ∙ rw (sym v ∙ not-true r h)) refl
 
     module _ (h : not r ≡ false) {c : CommandPacket} {t : Bool} (is : c ≡ commandOf p) (m : t ≡ meaningful c) where
@@ -58,7 +58,7 @@ module _ (b : Bridge) (p room : List ℕ) (a : Awaits b) where
       means : meaningful (commandOf p) ≡ t
       means = rw (← is) (sym m)
 
-      pub not-meaningful : not t ≡ true → Told b (Packet p) room 14 0 (stop b) room
+      pub not-meaningful : not t ≡ true → Told b (Packet p) room 14 0 false (stop b) room
       not-meaningful n = packet-refused b p room 14 (left-checks ∙ rw (good, means ∙ not-true t n)) refl
 
       -- the operations of its block, if they are made

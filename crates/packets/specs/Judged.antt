@@ -9,6 +9,6 @@ use Rattle.passthrough.specs.declared.Judgement.{Judgement}
 use Rattle.passthrough.specs.declared.Judgement.the-variants.{Unrecognised, NoRoom, Made}
 
 abbrev pub takenAs : Judgement → CommandPacket → Bridge → Outcome
-takenAs Unrecognised c b = outcome 0 0 (commandTaken false c b)
-takenAs NoRoom c b = outcome 15 0 b
-takenAs (Made count) c b = outcome 0 count (commandTaken true c b)
+takenAs Unrecognised c b = outcome 0 0 false (commandTaken false c b)
+takenAs NoRoom c b = outcome 15 0 true b
+takenAs (Made count) c b = outcome 0 count false (commandTaken true c b)

@@ -9,7 +9,7 @@ ghost use Rattle.rules.specs.Step.{Packet};
 ghost use Rattle.rules.specs.Stopping.{stop};
 ghost use Rattle.rules.specs.Packets.{commandLayout, commandOf, valid, meaningful, directionOf, commandTaken};
 use held::Outcome;
-use held::answered;
+use held::refused;
 use passthrough::Judgement;
 use rules::Bridge;
 use rules::CommandPacket;
@@ -45,9 +45,9 @@ fn is_meaningful(c: CommandPacket) -> bool
     ensures { λ r. ⌜ r ≡ meaningful c ⌝ }
 {
     ((c.flags == 0x00) | (c.flags == 0x80))
-        & (c.lun == 0)
-        & (1 <= c.block_length)
-        & (c.block_length <= 16)
+        && (c.lun == 0)
+        && (1 <= c.block_length)
+        && (c.block_length <= 16)
 }
 
 fn direction_of(c: CommandPacket) -> Direction
@@ -96,11 +96,12 @@ fn taken(judgement: Judgement, c: CommandPacket, b: Bridge) -> Outcome
     ensures { λ r. ⌜ r ≡ takenAs judgement c b ⌝ }
 {
     match judgement {
-        Judgement::Unrecognised => answered(answers::DONE, failed(c, b)),
-        Judgement::NoRoom => answered(answers::OPERATION_ROOM, b),
+        Judgement::Unrecognised => held::done(failed(c, b)),
+        Judgement::NoRoom => refused(answers::OPERATION_ROOM, b),
         Judgement::Made(count) => Outcome {
             answer: answers::DONE,
             count: count,
+            kept: false,
             bridge: busy(c, b),
         },
     }
@@ -108,12 +109,14 @@ fn taken(judgement: Judgement, c: CommandPacket, b: Bridge) -> Outcome
 
 // Both pipes halted, and no Mass Storage Reset yet.
 fn stopped(answer: u8, b: Bridge) -> Outcome
-    ensures { λ r. ⌜ r ≡ outcome answer 0 (stop b) ⌝ }
+    ensures { λ r. ⌜ r ≡ outcome answer 0 false (stop b) ⌝ }
 {
-    answered(
-        answer,
-        held::in_phase(Phase::Stopped { reset: false }, held::halted(true, true, b)),
-    )
+    Outcome {
+        answer: answer,
+        count: 0,
+        kept: false,
+        bridge: held::in_phase(Phase::Stopped { reset: false }, held::halted(true, true, b)),
+    }
 }
 
 // A command packet that the bridge awaits: its block is the part that starts at byte 15.
@@ -144,14 +147,16 @@ pub fn packet(b: Bridge, packet: &[u8], operations: &mut [u16]) -> Outcome
     ensures { λ r. ⌜ Answers b (Packet (now (packet .entry))) (now (operations .entry)) r (now (operations .exit)) ⌝ }
 {
     if !b.configured {
-        return answered(answers::UNCONFIGURED, b);
+        return refused(answers::UNCONFIGURED, b);
     }
     let phase = b.phase;
-    if held::is_stopped(phase) | b.halts.outward {
-        return answered(answers::HALTED, b);
-    }
     match phase {
-        Phase::Awaiting => {}
+        Phase::Awaiting => {
+            if b.halts.outward {
+                return refused(answers::HALTED, b);
+            }
+            awaited(b, packet, operations)
+        }
         Phase::Busy {
             tag: _,
             length: _,
@@ -161,8 +166,12 @@ pub fn packet(b: Bridge, packet: &[u8], operations: &mut [u16]) -> Outcome
             tag: _,
             residue: _,
             status: _,
+        } => {
+            if b.halts.outward {
+                return refused(answers::HALTED, b);
+            }
+            refused(answers::WRONG_PHASE, b)
         }
-        | Phase::Stopped { reset: _ } => return answered(answers::WRONG_PHASE, b),
+        Phase::Stopped { reset: _ } => refused(answers::HALTED, b),
     }
-    awaited(b, packet, operations)
 }

@@ -8,7 +8,7 @@ ghost use Rattle.rules.specs.Step.{Report};
 ghost use Rattle.rules.specs.Held.{inPhase, halting};
 ghost use Rattle.rules.specs.Reports.{malformed, mismatch, statusOf, reportTaken};
 use held::Outcome;
-use held::answered;
+use held::refused;
 use rules::Bridge;
 use rules::Direction;
 use rules::Phase;
@@ -97,19 +97,16 @@ fn reported(
     ensures { λ r. ⌜ Answers b (λ n. Report direction failed amount) [] r [] ⌝ }
 {
     if is_malformed(direction, failed, amount) {
-        return answered(answers::MALFORMED, b);
+        return refused(answers::MALFORMED, b);
     }
-    answered(
-        answers::DONE,
-        taken(b, tag, length, host, direction, failed, amount),
-    )
+    held::done(taken(b, tag, length, host, direction, failed, amount))
 }
 
 pub fn report(b: Bridge, direction: u8, failed: u8, amount: u32) -> Outcome
     ensures { λ r. ⌜ Answers b (λ n. Report direction failed amount) [] r [] ⌝ }
 {
     if !b.configured {
-        return answered(answers::UNCONFIGURED, b);
+        return refused(answers::UNCONFIGURED, b);
     }
     let phase = b.phase;
     match phase {
@@ -124,6 +121,6 @@ pub fn report(b: Bridge, direction: u8, failed: u8, amount: u32) -> Outcome
             residue: _,
             status: _,
         }
-        | Phase::Stopped { reset: _ } => answered(answers::WRONG_PHASE, b),
+        | Phase::Stopped { reset: _ } => refused(answers::WRONG_PHASE, b),
     }
 }

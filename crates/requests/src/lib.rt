@@ -65,7 +65,13 @@ fn is_configuration(s: Setup) -> bool
 fn is_pipe(s: Setup) -> bool
     ensures { λ r. ⌜ r ≡ (eqb (s .value) 0 && (eqb (s .index) bulkOut || eqb (s .index) bulkIn)) ⌝ }
 {
-    (s.value == 0) & ((s.index == BULK_OUT) | (s.index == BULK_IN))
+    if s.index == BULK_OUT {
+        return s.value == 0;
+    }
+    if s.index == BULK_IN {
+        return s.value == 0;
+    }
+    false
 }
 
 // The type field says class or vendor, or the recipient is an endpoint (USB 2.0, 9.3).

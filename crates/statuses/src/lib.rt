@@ -5,7 +5,7 @@ ghost use Rattle.held.specs.Outcomes.{Answers};
 ghost use Rattle.rules.specs.Step.{StatusRequest};
 ghost use Rattle.rules.specs.Packets.{statusPacket};
 use held::Outcome;
-use held::answered;
+use held::refused;
 use rules::Bridge;
 use rules::Phase;
 use rules::StatusPacket;
@@ -29,13 +29,14 @@ fn handed_out(b: Bridge, p: StatusPacket, reply: &mut [u8]) -> Outcome
     ensures { λ r. ⌜ Answers b StatusRequest (now (reply .entry)) r (now (reply .exit)) ⌝ }
 {
     if reply.len() < StatusPacket::LENGTH {
-        return answered(answers::REPLY_ROOM, b);
+        return refused(answers::REPLY_ROOM, b);
     }
     let packet = packet_of(p);
     lent::copy(reply, 0, &packet);
     Outcome {
         answer: answers::DONE,
         count: StatusPacket::LENGTH as u16,
+        kept: false,
         bridge: held::in_phase(Phase::Awaiting, b),
     }
 }
@@ -44,18 +45,18 @@ pub fn status(b: Bridge, reply: &mut [u8]) -> Outcome
     ensures { λ r. ⌜ Answers b StatusRequest (now (reply .entry)) r (now (reply .exit)) ⌝ }
 {
     if !b.configured {
-        return answered(answers::UNCONFIGURED, b);
+        return refused(answers::UNCONFIGURED, b);
     }
     let phase = b.phase;
-    if held::is_stopped(phase) | b.halts.inward {
-        return answered(answers::HALTED, b);
-    }
     match phase {
         Phase::StatusWaiting {
             tag,
             residue,
             status,
         } => {
+            if b.halts.inward {
+                return refused(answers::HALTED, b);
+            }
             let waiting = StatusPacket {
                 tag: tag,
                 residue: residue,
@@ -68,7 +69,12 @@ pub fn status(b: Bridge, reply: &mut [u8]) -> Outcome
             tag: _,
             length: _,
             direction: _,
+        } => {
+            if b.halts.inward {
+                return refused(answers::HALTED, b);
+            }
+            refused(answers::WRONG_PHASE, b)
         }
-        | Phase::Stopped { reset: _ } => answered(answers::WRONG_PHASE, b),
+        Phase::Stopped { reset: _ } => refused(answers::HALTED, b),
     }
 }

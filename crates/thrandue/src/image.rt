@@ -1,10 +1,12 @@
 // The image of a bridge, read and written.
 ghost use mathlib.Core.Path.{_≡_};
-ghost use mathlib.Core.Bool.{true};
+ghost use mathlib.Core.Bool.{cond};
+ghost use mathlib.Core.List.{_++_};
 ghost use Prim.Native.Nat.{_+_, _*_};
 ghost use lib.ListN.{length};
-ghost use Rattle.thrandue.specs.Image.{imageLength, codeOf, phaseFrom, flagsOf, encode, decode};
-ghost use Rattle.thrandue.specs.Calls.{imageLeft, phaseNumber};
+ghost use Rattle.rules.specs.Words.{bytes4};
+ghost use Rattle.thrandue.specs.Image.{imageLength, directionFrom, statusFrom, phaseFrom, codeOf, marksOf, row, numbersOf, restOf, encode, decode};
+ghost use Rattle.thrandue.specs.Calls.{phaseNumber};
 use bridge::Outcome;
 use rules::Bridge;
 use rules::Direction;
@@ -12,83 +14,81 @@ use rules::Halts;
 use rules::Phase;
 use rules::Status;
 
-pub(crate) const LENGTH: usize = 32;
+pub(crate) const LENGTH: usize = 25;
 
-// A phase as numbers.
-pub(crate) struct Coded {
-    pub(crate) number: u8,
-    pub(crate) tag: u32,
-    pub(crate) amount: u32,
-}
+// Behind the configuration bytes stand the tag, L or the residue, and the marks.
+const TAG: usize = 16;
 
-fn code_of(p: Phase) -> Coded
-    ensures { λ r. ⌜ r ≡ codeOf p ⌝ }
+const AMOUNT: usize = 20;
+
+const MARKS: usize = 24;
+
+fn direction_from(marks: u8) -> Direction
+    ensures { λ r. ⌜ r ≡ directionFrom marks ⌝ }
 {
-    match p {
-        Phase::Awaiting => Coded {
-            number: 0,
-            tag: 0,
-            amount: 0,
-        },
-        Phase::Busy {
-            tag,
-            length,
-            direction,
-        } => Coded {
-            number: 1 + direction.number(),
-            tag: tag,
-            amount: length,
-        },
-        Phase::StatusWaiting {
-            tag,
-            residue,
-            status,
-        } => Coded {
-            number: 4 + status.number(),
-            tag: tag,
-            amount: residue,
-        },
-        Phase::Stopped { reset } => Coded {
-            number: 7 + reset as u8,
-            tag: 0,
-            amount: 0,
-        },
+    if marks / 2 % 2 == 1 {
+        return Direction::Out;
     }
-}
-
-fn busy(c: Coded, direction: Direction) -> Phase
-    ensures { λ r. ⌜ r ≡ Phase.Busy (c .tag) (c .amount) direction ⌝ }
-{
-    Phase::Busy {
-        tag: c.tag,
-        length: c.amount,
-        direction: direction,
+    if marks / 1 % 2 == 1 {
+        return Direction::In;
     }
+    Direction::None
 }
 
-fn waiting(c: Coded, status: Status) -> Phase
-    ensures { λ r. ⌜ r ≡ Phase.StatusWaiting (c .tag) (c .amount) status ⌝ }
+fn status_from(marks: u8) -> Status
+    ensures { λ r. ⌜ r ≡ statusFrom marks ⌝ }
 {
-    Phase::StatusWaiting {
-        tag: c.tag,
-        residue: c.amount,
-        status: status,
+    if marks / 2 % 2 == 1 {
+        return Status::PhaseError;
     }
+    if marks / 1 % 2 == 1 {
+        return Status::Failed;
+    }
+    Status::Passed
 }
 
-fn phase_from(c: Coded) -> Phase
-    ensures { λ r. ⌜ r ≡ phaseFrom c ⌝ }
+// Direction and status are read beforehand: then no arm does more than put a phase together, and none costs a jump.
+fn phase_from(marks: u8, tag: u32, amount: u32) -> Phase
+    ensures { λ r. ⌜ r ≡ phaseFrom marks tag amount ⌝ }
 {
-    let number = c.number;
-    match number {
+    let direction = direction_from(marks);
+    let status = status_from(marks);
+    match marks / 64 {
         0 => Phase::Awaiting,
-        1 => busy(c, Direction::None),
-        2 => busy(c, Direction::In),
-        3 => busy(c, Direction::Out),
-        4 => waiting(c, Status::Passed),
-        5 => waiting(c, Status::Failed),
-        6 => waiting(c, Status::PhaseError),
-        _ => Phase::Stopped { reset: number != 7 },
+        1 => Phase::Busy {
+            tag: tag,
+            length: amount,
+            direction: direction,
+        },
+        2 => Phase::StatusWaiting {
+            tag: tag,
+            residue: amount,
+            status: status,
+        },
+        _ => Phase::Stopped {
+            reset: marks / 1 % 2 == 1,
+        },
+    }
+}
+
+// The state that the image stands for.
+pub(crate) fn load(image: &[u8]) -> Bridge
+    requires { ⌜ length (now image) ≡ imageLength ⌝ }
+    ensures { λ r. ⌜ r ≡ decode (now (image .entry)) ⌝ }
+{
+    let mut bytes = [0u8; 16];
+    lent::copy(&mut bytes, 0, image);
+    let tag = lent::long(image[16], image[17], image[18], image[19]);
+    let amount = lent::long(image[20], image[21], image[22], image[23]);
+    let marks = image[MARKS];
+    Bridge {
+        configured: marks / 4 % 2 == 1,
+        bytes: bytes,
+        phase: phase_from(marks, tag, amount),
+        halts: Halts {
+            outward: marks / 8 % 2 == 1,
+            inward: marks / 16 % 2 == 1,
+        },
     }
 }
 
@@ -112,101 +112,107 @@ pub(crate) fn phase_number(b: Bridge) -> u8
     }
 }
 
-// The configuration and the halts, a bit each.
-fn flags_of(b: Bridge) -> u8
-    ensures { λ r. ⌜ r ≡ flagsOf b ⌝ }
+fn code_of(p: Phase) -> u8
+    ensures { λ r. ⌜ r ≡ codeOf p ⌝ }
 {
-    b.configured as u8 + 2 * b.halts.outward as u8 + 4 * b.halts.inward as u8
-}
-
-// The state that the image stands for.
-pub(crate) fn load(image: &[u8]) -> Bridge
-    requires { ⌜ length (now image) ≡ imageLength ⌝ }
-    ensures { λ r. ⌜ r ≡ decode (now (image .entry)) ⌝ }
-{
-    let mut bytes = [0u8; 16];
-    lent::copy(&mut bytes, 0, image);
-    let coded = Coded {
-        number: image[24],
-        tag: lent::long(image[16], image[17], image[18], image[19]),
-        amount: lent::long(image[20], image[21], image[22], image[23]),
-    };
-    let flags = image[25];
-    Bridge {
-        configured: flags / 1 % 2 == 1,
-        bytes: bytes,
-        phase: phase_from(coded),
-        halts: Halts {
-            outward: flags / 2 % 2 == 1,
-            inward: flags / 4 % 2 == 1,
-        },
+    match p {
+        Phase::Awaiting => 0x00,
+        Phase::Busy {
+            tag: _,
+            length: _,
+            direction,
+        } => 0x40 + direction.number(),
+        Phase::StatusWaiting {
+            tag: _,
+            residue: _,
+            status,
+        } => 0x80 + status.number(),
+        Phase::Stopped { reset } => 0xC0 + reset as u8,
     }
 }
 
-fn image_of(b: Bridge) -> [u8; 32]
-    ensures { λ r. ⌜ r ≡ encode b ⌝ }
+fn marks_of(b: Bridge) -> u8
+    ensures { λ r. ⌜ r ≡ marksOf b ⌝ }
 {
     let phase = b.phase;
-    let bytes = b.bytes;
-    let code = code_of(phase);
-    let tag = lent::bytes_of(code.tag);
-    let amount = lent::bytes_of(code.amount);
-    [
-        bytes[0],
-        bytes[1],
-        bytes[2],
-        bytes[3],
-        bytes[4],
-        bytes[5],
-        bytes[6],
-        bytes[7],
-        bytes[8],
-        bytes[9],
-        bytes[10],
-        bytes[11],
-        bytes[12],
-        bytes[13],
-        bytes[14],
-        bytes[15],
-        tag[0],
-        tag[1],
-        tag[2],
-        tag[3],
-        amount[0],
-        amount[1],
-        amount[2],
-        amount[3],
-        code.number,
-        flags_of(b),
-        0,
-        0,
-        0,
-        0,
-        0,
-        0,
-    ]
+    code_of(phase) + 4 * b.configured as u8 + 8 * b.halts.outward as u8 + 16 * b.halts.inward as u8
+}
+
+fn put_pair(image: &mut [u8], tag: u32, amount: u32)
+    requires { ⌜ length (now image) ≡ imageLength ⌝ }
+    ensures { λ u. ⌜ now (image .exit) ≡ row 0 16 (now (image .entry)) ++ bytes4 tag ++ bytes4 amount ++ row 24 1 (now (image .entry)) ⌝ }
+{
+    lent::copy(image, TAG, &lent::bytes_of(tag));
+    lent::copy(image, AMOUNT, &lent::bytes_of(amount));
+}
+
+// The tag, and L or the residue, of a phase that has them.
+fn put_numbers(image: &mut [u8], phase: Phase)
+    requires { ⌜ length (now image) ≡ imageLength ⌝ }
+    ensures { λ u. ⌜ now (image .exit) ≡ row 0 16 (now (image .entry)) ++ numbersOf phase (row 16 8 (now (image .entry))) ++ row 24 1 (now (image .entry)) ⌝ }
+{
+    match phase {
+        Phase::Awaiting | Phase::Stopped { reset: _ } => {}
+        Phase::Busy {
+            tag,
+            length,
+            direction: _,
+        } => put_pair(image, tag, length),
+        Phase::StatusWaiting {
+            tag,
+            residue,
+            status: _,
+        } => put_pair(image, tag, residue),
+    }
+}
+
+// All but the configuration bytes.
+fn put_rest(image: &mut [u8], b: Bridge)
+    requires { ⌜ length (now image) ≡ imageLength ⌝ }
+    ensures { λ u. ⌜ now (image .exit) ≡ row 0 16 (now (image .entry)) ++ restOf (now (image .entry)) b ⌝ }
+{
+    let phase = b.phase;
+    put_numbers(image, phase);
+    image[MARKS] = marks_of(b);
 }
 
 pub(crate) fn store(image: &mut [u8], b: Bridge)
     requires { ⌜ length (now image) ≡ imageLength ⌝ }
-    ensures { λ r. ⌜ now (image .exit) ≡ encode b ⌝ }
+    ensures { λ u. ⌜ now (image .exit) ≡ encode (now (image .entry)) b ⌝ }
 {
-    let whole = image_of(b);
-    lent::copy(image, 0, &whole);
+    let bytes = b.bytes;
+    lent::copy(image, 0, &bytes);
+    put_rest(image, b);
 }
 
-// What an event's outcome leaves in the image and returns.
+fn returned(o: Outcome) -> u32
+    ensures { λ r. ⌜ r ≡ o .answer + 256 * o .count ⌝ }
+{
+    o.answer as u32 + 256 * o.count as u32
+}
+
+// What a control request leaves in the image and returns.
 pub(crate) fn leave(image: &mut [u8], o: Outcome) -> u32
     requires { ⌜ length (now image) ≡ imageLength ⌝ }
-    ensures { λ r. ⌜ (r ≡ o .answer + 256 * o .count) × (now (image .exit) ≡ imageLeft true (o .answer) (o .bridge) (now (image .entry))) ⌝ }
+    ensures { λ r. ⌜ (r ≡ o .answer + 256 * o .count) × (now (image .exit) ≡ cond (o .kept) (now (image .entry)) (encode (now (image .entry)) (o .bridge))) ⌝ }
 {
-    let answer = o.answer;
-    let returned = answer as u32 + 256 * o.count as u32;
-    let changed = (answer == 0) | ((answer == 13) | (answer == 14));
-    if !changed {
-        return returned;
+    if o.kept {
+        return returned(o);
     }
     let next = o.bridge;
     store(image, next);
-    returned
+    returned(o)
+}
+
+// What any other event leaves and returns: it changes no configuration byte, so that none is written.
+pub(crate) fn leave_bytes(image: &mut [u8], o: Outcome) -> u32
+    requires { ⌜ length (now image) ≡ imageLength ⌝ }
+    ensures { λ r. ⌜ (r ≡ o .answer + 256 * o .count) × (now (image .exit) ≡ cond (o .kept) (now (image .entry)) (row 0 16 (now (image .entry)) ++ restOf (now (image .entry)) (o .bridge))) ⌝ }
+{
+    if o.kept {
+        return returned(o);
+    }
+    let next = o.bridge;
+    put_rest(image, next);
+    returned(o)
 }

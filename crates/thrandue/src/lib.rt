@@ -19,6 +19,7 @@ pub extern "C" fn thrandue_power_on(image: &mut [u8]) -> u32
     if image.len() != image::LENGTH {
         return NO_IMAGE as u32;
     }
+    lent::copy(image, 0, &[0u8; image::LENGTH]);
     image::store(image, Bridge::power_on());
     0
 }
@@ -31,7 +32,7 @@ pub extern "C" fn thrandue_bus_reset(image: &mut [u8]) -> u32
         return NO_IMAGE as u32;
     }
     let b = image::load(image);
-    image::leave(image, bridge::bus_reset(b))
+    image::leave_bytes(image, bridge::bus_reset(b))
 }
 
 #[no_mangle]
@@ -59,7 +60,7 @@ pub extern "C" fn thrandue_packet(image: &mut [u8], packet: &[u8], operations: &
         return NO_IMAGE as u32;
     }
     let b = image::load(image);
-    image::leave(image, bridge::packet(b, packet, operations))
+    image::leave_bytes(image, bridge::packet(b, packet, operations))
 }
 
 #[no_mangle]
@@ -70,7 +71,7 @@ pub extern "C" fn thrandue_report(image: &mut [u8], direction: u8, failed: u8, a
         return NO_IMAGE as u32;
     }
     let b = image::load(image);
-    image::leave(image, bridge::report(b, direction, failed, amount))
+    image::leave_bytes(image, bridge::report(b, direction, failed, amount))
 }
 
 #[no_mangle]
@@ -81,7 +82,7 @@ pub extern "C" fn thrandue_status(image: &mut [u8], reply: &mut [u8]) -> u32
         return NO_IMAGE as u32;
     }
     let b = image::load(image);
-    image::leave(image, bridge::status(b, reply))
+    image::leave_bytes(image, bridge::status(b, reply))
 }
 
 #[no_mangle]

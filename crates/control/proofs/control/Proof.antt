@@ -13,8 +13,8 @@ judge-requires c κs = search needs
 enum-known-judgement : tie.Need-enum-known-judgement
 enum-known-judgement c = search needs
 
-answered-requires : tie.Need-answered-requires
-answered-requires c κs = search needs
+refused-requires : tie.Need-refused-requires
+refused-requires c κs = search needs
 
 enum-known-judgement-2 : tie.Need-enum-known-judgement-2
 enum-known-judgement-2 c = search needs
@@ -31,7 +31,7 @@ returns c =
     let start = c .before .before .before .before .before .before .before .before .before in
     let at = start .args in
     let sixteen : length (at .b .bytes) ≡ 16 = simp length-map at (start .good .0 .1 .1 .1 .0 .1 .0 .1) in
-    rw (c .answered .ensures) (by-judgement (world (at .b) (at .memory .now)) (at .setup .now) (at .host .now) (at .reply .now) sixteen (c .before .before .before .before .judge .ensures) (c .before .before .judgement .given .1))
+    rw (c .refused .ensures) (by-judgement (world (at .b) (at .memory .now)) (at .setup .now) (at .host .now) (at .reply .now) sixteen (c .before .before .before .before .judge .ensures) (c .before .before .judgement .given .1))
 
 same-length : tie.Need-same-length
 same-length c = search needs
@@ -53,7 +53,7 @@ control-spec =
     (tie.spec
     judge-requires
     enum-known-judgement
-    answered-requires
+    refused-requires
     enum-known-judgement-2
     serve-requires
     returns

@@ -1,10 +1,11 @@
 -- `control::serve` meets its contract.
-use native.Mathlib.Omega.{arith}
-use lib.ListN.{length-replicate}
-use borrow.Author.Needs.{needs}
-use Rattle.rules.specs.Held.{world}
-use Rattle.rules.specs.Requests.{storeOf}
 use Rattle.control.proofs.Places.{part-length}
+use Rattle.rules.specs.Requests.{storeOf}
+use Rattle.rules.specs.Held.{world}
+use borrow.Author.Tests.{ne-eqb}
+use lib.ListN.{length-replicate}
+use native.Mathlib.Omega.{arith}
+use borrow.Author.Needs.{needs}
 use Rattle.control.proofs.serve.Statement.{statement}
 use Rattle.control.proofs.serve.Tie as tie
 
@@ -14,8 +15,8 @@ enum-told c = search needs
 fresh-requires : tie.Need-fresh-requires
 fresh-requires c κs = search needs
 
-answered-requires : tie.Need-answered-requires
-answered-requires c κs = search needs
+done-requires : tie.Need-done-requires
+done-requires c κs = search needs
 
 enum-told-2 : tie.Need-enum-told-2
 enum-told-2 c = search needs
@@ -35,8 +36,8 @@ enum-told-3 c = search needs
 clear-feature-requires : tie.Need-clear-feature-requires
 clear-feature-requires c κs = search needs
 
-answered-requires-2 : tie.Need-answered-requires-2
-answered-requires-2 c κs = search needs
+done-requires-2 : tie.Need-done-requires-2
+done-requires-2 c κs = search needs
 
 enum-told-4 : tie.Need-enum-told-4
 enum-told-4 c = search needs
@@ -68,27 +69,37 @@ mass-storage-reset-requires c κs = search needs
 in-phase-requires : tie.Need-in-phase-requires
 in-phase-requires c κs = search needs
 
-answered-requires-3 : tie.Need-answered-requires-3
-answered-requires-3 c κs = search needs
+done-requires-3 : tie.Need-done-requires-3
+done-requires-3 c κs = search needs
 
 enum-told-7 : tie.Need-enum-told-7
 enum-told-7 c = search needs
 
-load-requires : tie.Need-load-requires
-load-requires c κs = c .before .before .before .before .before .before .pre .writes (c .before .enum-told7 .given .1)
+load-memory-requires : tie.Need-load-memory-requires
+load-memory-requires c κs =
+    let writes = c .before .before .before .before .before .before .pre .writes (c .before .enum-told7 .given .1) in
+    (λ p. rw p at (writes .0), writes .1)
 
-answered-requires-4 : tie.Need-answered-requires-4
-answered-requires-4 c κs = search needs
+loaded-requires : tie.Need-loaded-requires
+loaded-requires c κs =
+    let writes = c .before .before .before .before .before .before .before .before .before .pre .writes (c .before .before .before .before .enum-told7 .given .1) in
+    (λ p. rw (ne-eqb (c .before .before .before .before .before .before .before .before .before .args .s .value) 2 p) at (writes .0), writes .1)
+
+holding-requires : tie.Need-holding-requires
+holding-requires c κs = search needs
+
+done-requires-4 : tie.Need-done-requires-4
+done-requires-4 c κs = search needs
 
 enum-told-8 : tie.Need-enum-told-8
 enum-told-8 c = search needs
 
 read-requires : tie.Need-read-requires
 read-requires c κs =
-    let start = c .before .before .before .before .before .before .before in
-    let at = start .args in
-    let inside = start .pre .reads (c .before .before .enum-told8 .given .1) in
-    (inside, rw (c .before .before .enum-told8 .given .1, part-length (storeOf (at .s .value) (world (at .b) (at .memory .now))) (at .s .index) (at .s .length) inside) at (start .pre .fits))
+    let at = c .before .before .before .before .before .before .before .args in
+    let told = c .before .before .enum-told8 .given .1 in
+    let inside = c .before .before .before .before .before .before .before .pre .reads told in
+    (inside, rw (told, part-length (storeOf (at .s .value) (world (at .b) (at .memory .now))) (at .s .index) (at .s .length) inside) at (c .before .before .before .before .before .before .before .pre .fits))
 
 replied-requires-4 : tie.Need-replied-requires-4
 replied-requires-4 c κs = search needs
@@ -102,8 +113,8 @@ soft-reset-requires c κs = search needs
 in-phase-requires-2 : tie.Need-in-phase-requires-2
 in-phase-requires-2 c κs = search needs
 
-answered-requires-5 : tie.Need-answered-requires-5
-answered-requires-5 c κs = search needs
+done-requires-5 : tie.Need-done-requires-5
+done-requires-5 c κs = search needs
 
 enum-told-10 : tie.Need-enum-told-10
 enum-told-10 c = search needs
@@ -120,11 +131,11 @@ replied-requires-5 c κs = search needs
 enum-told-11 : tie.Need-enum-told-11
 enum-told-11 c = search needs
 
-answered-requires-6 : tie.Need-answered-requires-6
-answered-requires-6 c κs = search needs
+done-requires-6 : tie.Need-done-requires-6
+done-requires-6 c κs = search needs
 
 returns : tie.Need-returns
-returns c = rw (c .before .before .before .enum-told .given .1, c .answered .ensures, c .before .fresh .ensures)
+returns c = rw (c .before .before .before .enum-told .given .1, c .done .ensures, c .before .fresh .ensures)
 
 same-length : tie.Need-same-length
 same-length c = search needs
@@ -133,7 +144,7 @@ returns-2 : tie.Need-returns-2
 returns-2 c = rw (c .before .before .before .before .before .before .enum-told2 .given .1, c .replied .ensures, c .before .before .before .number .ensures .0, c .before .before .before .number .ensures .1, c .before .before .before .before .before .configuration-of .ensures)
 
 returns-3 : tie.Need-returns-3
-returns-3 c = rw (c .before .before .enum-told3 .given .1, c .answered2 .ensures, c .before .clear-feature .ensures)
+returns-3 c = rw (c .before .before .enum-told3 .given .1, c .done2 .ensures, c .before .clear-feature .ensures)
 
 same-length-2 : tie.Need-same-length-2
 same-length-2 c = search needs
@@ -148,13 +159,13 @@ returns-5 : tie.Need-returns-5
 returns-5 c = rw (c .before .before .before .before .before .enum-told5 .given .1, c .replied3 .ensures, c .before .before .before .number3 .ensures .0, c .before .before .before .number3 .ensures .1)
 
 returns-6 : tie.Need-returns-6
-returns-6 c = rw (c .before .before .before .enum-told6 .given .1, c .answered3 .ensures, c .before .in-phase .ensures, c .before .before .mass-storage-reset .ensures)
+returns-6 c = rw (c .before .before .before .enum-told6 .given .1, c .done3 .ensures, c .before .in-phase .ensures, c .before .before .mass-storage-reset .ensures)
 
 same-length-4 : tie.Need-same-length-4
 same-length-4 c = search needs
 
 returns-7 : tie.Need-returns-7
-returns-7 c = rw (c .before .before .before .before .before .enum-told7 .given .1, c .answered4 .ensures, c .before .before .before .load .ensures .0, c .before .before .before .load .ensures .1)
+returns-7 c = rw (c .before .before .before .before .before .before .before .enum-told7 .given .1, c .done4 .ensures, c .before .holding .ensures, c .before .before .loaded .ensures, c .before .before .before .before .before .load-memory .ensures)
 
 same-length-5 : tie.Need-same-length-5
 same-length-5 c = search needs
@@ -164,13 +175,12 @@ same-length-6 c = search needs
 
 returns-8 : tie.Need-returns-8
 returns-8 c =
-    let start = c .before .before .before .before .before .before .before .before .before .before .before in
-    let at = start .args in
+    let at = c .before .before .before .before .before .before .before .before .before .before .before .args in
     let told = c .before .before .before .before .before .before .enum-told8 .given .1 in
-    rw (told, c .replied4 .ensures, c .before .before .before .read .ensures, part-length (storeOf (at .s .value) (world (at .b) (at .memory .now))) (at .s .index) (at .s .length) (start .pre .reads told))
+    rw (told, c .replied4 .ensures, c .before .before .before .read .ensures, part-length (storeOf (at .s .value) (world (at .b) (at .memory .now))) (at .s .index) (at .s .length) (c .before .before .before .before .before .before .before .before .before .before .before .pre .reads told))
 
 returns-9 : tie.Need-returns-9
-returns-9 c = rw (c .before .before .before .enum-told9 .given .1, c .answered5 .ensures, c .before .in-phase2 .ensures, c .before .before .soft-reset .ensures)
+returns-9 c = rw (c .before .before .before .enum-told9 .given .1, c .done5 .ensures, c .before .in-phase2 .ensures, c .before .before .soft-reset .ensures)
 
 same-length-7 : tie.Need-same-length-7
 same-length-7 c = search needs
@@ -179,7 +189,7 @@ returns-10 : tie.Need-returns-10
 returns-10 c = rw (c .before .before .before .before .before .before .enum-told10 .given .1, c .replied5 .ensures, c .before .before .before .clear .ensures, length-replicate)
 
 returns-11 : tie.Need-returns-11
-returns-11 c = rw (c .before .enum-told11 .given .1, c .answered6 .ensures)
+returns-11 c = rw (c .before .enum-told11 .given .1, c .done6 .ensures)
 
 pub serve-spec : {M : Type 1} → statement M
 serve-spec =
@@ -187,14 +197,14 @@ serve-spec =
     (tie.spec
     enum-told
     fresh-requires
-    answered-requires
+    done-requires
     enum-told-2
     configuration-of-requires
     number-requires
     replied-requires
     enum-told-3
     clear-feature-requires
-    answered-requires-2
+    done-requires-2
     enum-told-4
     halt-of-requires
     number-requires-2
@@ -205,23 +215,25 @@ serve-spec =
     enum-told-6
     mass-storage-reset-requires
     in-phase-requires
-    answered-requires-3
+    done-requires-3
     enum-told-7
-    load-requires
-    answered-requires-4
+    load-memory-requires
+    loaded-requires
+    holding-requires
+    done-requires-4
     enum-told-8
     read-requires
     replied-requires-4
     enum-told-9
     soft-reset-requires
     in-phase-requires-2
-    answered-requires-5
+    done-requires-5
     enum-told-10
     cast-clear
     clear-requires
     replied-requires-5
     enum-told-11
-    answered-requires-6
+    done-requires-6
     returns
     same-length
     returns-2

@@ -9,11 +9,8 @@ halted-requires c κs = search needs
 in-phase-requires : tie.Need-in-phase-requires
 in-phase-requires c κs = search needs
 
-answered-requires : tie.Need-answered-requires
-answered-requires c κs = search needs
-
 returns : tie.Need-returns
-returns c = rw (c .answered .ensures, c .before .in-phase .ensures, c .before .before .halted .ensures)
+returns c = rw (c .in-phase .ensures, c .before .halted .ensures)
 
 pub stopped-spec : {M : Type 1} → statement M
-stopped-spec = tie.close (tie.spec halted-requires in-phase-requires answered-requires returns)
+stopped-spec = tie.close (tie.spec halted-requires in-phase-requires returns)

@@ -9,14 +9,14 @@ enum-told c = search needs
 failed-requires : tie.Need-failed-requires
 failed-requires c κs = search needs
 
-answered-requires : tie.Need-answered-requires
-answered-requires c κs = search needs
+done-requires : tie.Need-done-requires
+done-requires c κs = search needs
 
 enum-told-2 : tie.Need-enum-told-2
 enum-told-2 c = search needs
 
-answered-requires-2 : tie.Need-answered-requires-2
-answered-requires-2 c κs = search needs
+refused-requires : tie.Need-refused-requires
+refused-requires c κs = search needs
 
 enum-known-judgement : tie.Need-enum-known-judgement
 enum-known-judgement c = search needs
@@ -25,10 +25,10 @@ busy-requires : tie.Need-busy-requires
 busy-requires c κs = search needs
 
 returns : tie.Need-returns
-returns c = rw (c .answered .ensures, c .before .failed .ensures, c .before .before .enum-told .given .1)
+returns c = rw (c .done .ensures, c .before .failed .ensures, c .before .before .enum-told .given .1)
 
 returns-2 : tie.Need-returns-2
-returns-2 c = rw (c .answered2 .ensures, c .before .enum-told2 .given .1)
+returns-2 c = rw (c .refused .ensures, c .before .enum-told2 .given .1)
 
 returns-3 : tie.Need-returns-3
 returns-3 c = rw (c .busy .ensures, c .before .before .judgement .given .1)
@@ -39,9 +39,9 @@ taken-spec =
     (tie.spec
     enum-told
     failed-requires
-    answered-requires
+    done-requires
     enum-told-2
-    answered-requires-2
+    refused-requires
     enum-known-judgement
     busy-requires
     returns

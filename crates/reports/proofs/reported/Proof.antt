@@ -9,27 +9,27 @@ use Rattle.reports.proofs.reported.Tie as tie
 is-malformed-requires : tie.Need-is-malformed-requires
 is-malformed-requires c κs = search needs
 
-answered-requires : tie.Need-answered-requires
-answered-requires c κs = search needs
+refused-requires : tie.Need-refused-requires
+refused-requires c κs = search needs
 
 returns : tie.Need-returns
 unfolding reportAnswer
 returns c =
     let given = c .before .before .before .pre in
-    rw (c .answered .ensures)
+    rw (c .refused .ensures)
     (report-refused _ _ _ _ 17 (rw (given .configured, given .busy, sym (c .before .before .is-malformed .ensures) ∙ c .before .if1 .taken)) refl)
 
 taken-requires : tie.Need-taken-requires
 taken-requires c κs = search needs
 
-answered-requires-2 : tie.Need-answered-requires-2
-answered-requires-2 c κs = search needs
+done-requires : tie.Need-done-requires
+done-requires c κs = search needs
 
 returns-2 : tie.Need-returns-2
 unfolding reportAnswer
 returns-2 c =
     let given = c .before .before .before .before .pre in
-    rw (c .answered2 .ensures, c .before .taken .ensures)
+    rw (c .done .ensures, c .before .taken .ensures)
     (report-done _ _ _ _ _ (given .busy) (rw (given .configured, given .busy, sym (c .before .before .before .is-malformed .ensures) ∙ c .before .before .if1 .left)))
 
 pub reported-spec : {M : Type 1} → statement M
@@ -37,8 +37,8 @@ reported-spec =
     tie.close
     (tie.spec
     is-malformed-requires
-    answered-requires
+    refused-requires
     returns
     taken-requires
-    answered-requires-2
+    done-requires
     returns-2)

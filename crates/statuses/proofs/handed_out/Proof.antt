@@ -11,12 +11,12 @@ use Rattle.rules.proofs.Promises.{status-refused, status-done}
 use Rattle.statuses.proofs.handed_out.Statement.{statement}
 use Rattle.statuses.proofs.handed_out.Tie as tie
 
-answered-requires : tie.Need-answered-requires
-answered-requires c κs = search needs
+refused-requires : tie.Need-refused-requires
+refused-requires c κs = search needs
 
 returns : tie.Need-returns
 unfolding statusAnswer
-returns c = rw (c .answered .ensures) (status-refused _ _ 3 (rw (c .before .before .before .pre .configured, c .before .before .before .pre .waits, c .before .before .before .pre .runs, lt-ltb _ _ (c .before .if1 .taken))) refl)
+returns c = rw (c .refused .ensures) (status-refused _ _ 3 (rw (c .before .before .before .pre .configured, c .before .before .before .pre .waits, c .before .before .before .pre .runs, lt-ltb _ _ (c .before .if1 .taken))) refl)
 
 packet-of-requires : tie.Need-packet-of-requires
 packet-of-requires c κs = search needs
@@ -51,7 +51,7 @@ pub handed-out-spec : {M : Type 1} → statement M
 handed-out-spec =
     tie.close
     (tie.spec
-    answered-requires
+    refused-requires
     returns
     packet-of-requires
     slice-aggregate-copy

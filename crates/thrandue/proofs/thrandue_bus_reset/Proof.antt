@@ -1,8 +1,9 @@
 -- `thrandue::thrandue_bus_reset` meets its contract.
 use mathlib.Core.List.{[]}
+use mathlib.Core.Path.{refl}
 use borrow.Author.Needs.{needs}
 use Rattle.rules.specs.Step.{BusReset}
-use Rattle.thrandue.proofs.Laws.{no-image, image-left}
+use Rattle.thrandue.proofs.Laws.{no-image, bytes-left}
 use Rattle.thrandue.proofs.thrandue_bus_reset.Statement.{statement}
 use Rattle.thrandue.proofs.thrandue_bus_reset.Tie as tie
 
@@ -18,14 +19,14 @@ load-requires c κs = search needs
 bus-reset-requires : tie.Need-bus-reset-requires
 bus-reset-requires c κs = search needs
 
-leave-requires : tie.Need-leave-requires
-leave-requires c κs = search needs
+leave-bytes-requires : tie.Need-leave-bytes-requires
+leave-bytes-requires c κs = search needs
 
 same-length : tie.Need-same-length
 same-length c = search needs
 
 returns-2 : tie.Need-returns-2
-returns-2 c = λ m. image-left (c .before .before .before .before .before .before .before .before .before .args .image .now) m (λ n. BusReset) [] (c .before .before .before .bus-reset .result) (c .before .before .before .before .before .before .before .if1 .left) (c .before .before .before .before .before .load .ensures) (c .before .before .before .bus-reset .ensures m) (c .before .before .leave .ensures)
+returns-2 c = λ m. bytes-left (c .before .before .before .before .before .before .before .before .before .args .image .now) m (λ n. BusReset) [] (c .before .before .before .bus-reset .result) (c .before .before .before .before .before .before .before .if1 .left) (c .before .before .before .before .before .load .ensures) (c .before .before .before .bus-reset .ensures m) refl (c .before .before .leave-bytes .ensures)
 
 pub thrandue-bus-reset-spec : {M : Type 1} → statement M
 thrandue-bus-reset-spec =
@@ -35,6 +36,6 @@ thrandue-bus-reset-spec =
     returns
     load-requires
     bus-reset-requires
-    leave-requires
+    leave-bytes-requires
     same-length
     returns-2)

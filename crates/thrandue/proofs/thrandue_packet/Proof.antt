@@ -1,7 +1,8 @@
 -- `thrandue::thrandue_packet` meets its contract.
+use mathlib.Core.Path.{refl}
 use borrow.Author.Needs.{needs}
 use Rattle.rules.specs.Step.{Packet}
-use Rattle.thrandue.proofs.Laws.{no-image, image-left}
+use Rattle.thrandue.proofs.Laws.{no-image, bytes-left}
 use Rattle.thrandue.proofs.thrandue_packet.Statement.{statement}
 use Rattle.thrandue.proofs.thrandue_packet.Tie as tie
 
@@ -19,8 +20,8 @@ load-requires c κs = search needs
 packet-requires : tie.Need-packet-requires
 packet-requires c κs = search needs
 
-leave-requires : tie.Need-leave-requires
-leave-requires c κs = search needs
+leave-bytes-requires : tie.Need-leave-bytes-requires
+leave-bytes-requires c κs = search needs
 
 same-length : tie.Need-same-length
 same-length c = search needs
@@ -34,9 +35,9 @@ returns-2 c =
     let if1 = c .before .before .before .before .before .before .before .before .before .before .if1 in
     let load = c .before .before .before .before .before .before .before .before .load in
     let packet = c .before .before .before .before .before .packet in
-    let leave = c .before .before .leave in
+    let leave = c .before .before .leave-bytes in
     let at = start .args in
-    λ m. image-left (at .image .now) m (Packet (at .packet .now)) (at .operations .now) (packet .result) (if1 .left) (load .ensures) (packet .ensures m) (leave .ensures)
+    λ m. bytes-left (at .image .now) m (Packet (at .packet .now)) (at .operations .now) (packet .result) (if1 .left) (load .ensures) (packet .ensures m) refl (leave .ensures)
 
 pub thrandue-packet-spec : {M : Type 1} → statement M
 thrandue-packet-spec =
@@ -46,7 +47,7 @@ thrandue-packet-spec =
     returns
     load-requires
     packet-requires
-    leave-requires
+    leave-bytes-requires
     same-length
     same-length-2
     returns-2)

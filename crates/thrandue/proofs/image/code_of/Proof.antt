@@ -1,8 +1,8 @@
 -- `thrandue::image::code_of` meets its contract.
+use Rattle.thrandue.proofs.Laws.{direction-most, status-most}
+use Rattle.lent.proofs.Laws.{bool-byte, bool-most}
 use native.Mathlib.Omega.{arith}
 use borrow.Author.Needs.{needs}
-use Rattle.lent.proofs.Laws.{bool-byte, bool-most}
-use Rattle.thrandue.proofs.Laws.{direction-most, status-most}
 use Rattle.thrandue.proofs.image.code_of.Statement.{statement}
 use Rattle.thrandue.proofs.image.code_of.Tie as tie
 
@@ -15,8 +15,8 @@ enum-known-p c = search needs
 number-requires : tie.Need-number-requires
 number-requires c κs = search needs
 
-add-t11 : tie.Need-add-t11
-add-t11 c = omega (arith, c .number .ensures, direction-most (c .before .before .p .given .0 .1 .1 .0))
+add-result : tie.Need-add-result
+add-result c = omega (arith, c .number .ensures, direction-most (c .before .before .p .given .0 .1 .1 .0))
 
 enum-known-p-2 : tie.Need-enum-known-p-2
 enum-known-p-2 c = search needs
@@ -24,20 +24,20 @@ enum-known-p-2 c = search needs
 number-requires-2 : tie.Need-number-requires-2
 number-requires-2 c κs = search needs
 
-add-t13 : tie.Need-add-t13
-add-t13 c = omega (arith, c .number2 .ensures, status-most (c .before .before .p2 .given .0 .1 .1 .0))
+add-result-2 : tie.Need-add-result-2
+add-result-2 c = omega (arith, c .number2 .ensures, status-most (c .before .before .p2 .given .0 .1 .1 .0))
 
 enum-known-p-3 : tie.Need-enum-known-p-3
 enum-known-p-3 c = search needs
 
-cast-t14 : tie.Need-cast-t14
-cast-t14 c = search needs
+cast-result : tie.Need-cast-result
+cast-result c = search needs
 
-add-t15 : tie.Need-add-t15
-add-t15 c = omega (arith, bool-most (c .before .p3 .given .0 .0))
+add-result-3 : tie.Need-add-result-3
+add-result-3 c = omega (arith, bool-most (c .before .p3 .given .0 .0))
 
 returns : tie.Need-returns
-returns c = rw (c .enum-told .given .1)
+returns c = search needs
 
 returns-2 : tie.Need-returns-2
 returns-2 c = rw (c .before .before .p .given .1, c .number .ensures)
@@ -55,13 +55,13 @@ code-of-spec =
     enum-told
     enum-known-p
     number-requires
-    add-t11
+    add-result
     enum-known-p-2
     number-requires-2
-    add-t13
+    add-result-2
     enum-known-p-3
-    cast-t14
-    add-t15
+    cast-result
+    add-result-3
     returns
     returns-2
     returns-3

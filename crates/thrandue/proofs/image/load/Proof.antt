@@ -1,8 +1,8 @@
 -- `thrandue::image::load` meets its contract.
-use mathlib.Core.Path.{refl, _∙_}
+use Rattle.thrandue.proofs.Laws.{first-sixteen}
 use lib.ListN.{replicate}
+use mathlib.Core.Path.{refl, _∙_}
 use borrow.Author.Needs.{needs}
-use Rattle.thrandue.proofs.Laws.{first-half}
 use Rattle.thrandue.proofs.image.load.Statement.{statement}
 use Rattle.thrandue.proofs.image.load.Tie as tie
 
@@ -11,9 +11,6 @@ slice-aggregate-copy c = search needs
 
 copy-requires : tie.Need-copy-requires
 copy-requires c κs = search needs
-
-shared-slice-read-flags : tie.Need-shared-slice-read-flags
-shared-slice-read-flags c = search needs
 
 shared-slice-read-long : tie.Need-shared-slice-read-long
 shared-slice-read-long c = search needs
@@ -45,16 +42,14 @@ shared-slice-read-long-8 c = search needs
 long-requires-2 : tie.Need-long-requires-2
 long-requires-2 c κs = search needs
 
-shared-slice-read-flags-2 : tie.Need-shared-slice-read-flags-2
-shared-slice-read-flags-2 c = search needs
+shared-slice-read-marks : tie.Need-shared-slice-read-marks
+shared-slice-read-marks c = search needs
 
 phase-from-requires : tie.Need-phase-from-requires
 phase-from-requires c κs = search needs
 
 returns : tie.Need-returns
-returns c =
-    let start = c .before .before .before .before .before .before .before .before .before .before .before .before .before .before .before .before .before in
-    rw (c .before .before .before .before .before .before .before .before .before .before .before .before .before .before .copy .ensures ∙ first-half (replicate 16 0) (start .args .image .now) refl (start .pre), c .phase-from .ensures, c .before .before .before .before .before .before .before .long .ensures, c .before .before .long2 .ensures)
+returns c = rw (c .before .before .before .before .before .before .before .before .before .before .before .before .before .copy .ensures ∙ first-sixteen (c .before .before .before .before .before .before .before .before .before .before .before .before .before .before .before .before .args .image .now) (c .before .before .before .before .before .before .before .before .before .before .before .before .before .before .before .before .pre) (replicate 16 0) refl, c .phase-from .ensures, c .before .before .before .before .before .before .before .long .ensures, c .before .before .long2 .ensures)
 
 pub load-spec : {M : Type 1} → statement M
 load-spec =
@@ -62,7 +57,6 @@ load-spec =
     (tie.spec
     slice-aggregate-copy
     copy-requires
-    shared-slice-read-flags
     shared-slice-read-long
     shared-slice-read-long-2
     shared-slice-read-long-3
@@ -73,6 +67,6 @@ load-spec =
     shared-slice-read-long-7
     shared-slice-read-long-8
     long-requires-2
-    shared-slice-read-flags-2
+    shared-slice-read-marks
     phase-from-requires
     returns)

@@ -1,0 +1,16 @@
+-- `thrandue::image::direction_from` meets its contract.
+use borrow.Author.Tests.{ne-eqb}
+use Rattle.thrandue.proofs.image.direction_from.Statement.{statement}
+use Rattle.thrandue.proofs.image.direction_from.Tie as tie
+
+returns : tie.Need-returns
+returns c = rw (c .if1 .taken)
+
+returns-2 : tie.Need-returns-2
+returns-2 c = rw (ne-eqb _ 1 (c .before .if1 .left), c .if2 .taken)
+
+returns-3 : tie.Need-returns-3
+returns-3 c = rw (ne-eqb _ 1 (c .before .if1 .left), ne-eqb _ 1 (c .if2 .left))
+
+pub direction-from-spec : {M : Type 1} → statement M
+direction-from-spec = tie.close (tie.spec returns returns-2 returns-3)
