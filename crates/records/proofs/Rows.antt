@@ -18,19 +18,19 @@ pub put-cons : (l : List ℕ) (i x : ℕ) {ys after : List ℕ} {next : ℕ} →
 put-cons l i x p = record { stored = rw add-one at (p .stored); moved = omega (arith, p .moved) }
 
 module _ (f : ℕ → List ℕ) where
-  pub each-append : (xs ys : List ℕ) → each f (xs ++ ys) ≡ each f xs ++ each f ys
+  each-append : (xs ys : List ℕ) → each f (xs ++ ys) ≡ each f xs ++ each f ys
   each-append [] ys = refl
   each-append (x ∷ xs) ys = rw (each-append xs ys, append-assoc)
 
   -- one element more
-  pub each-more : (xs : List ℕ) (i : ℕ) → i < length xs → each f (take (i + 1) xs) ≡ each f (take i xs) ++ f (getD xs i 0)
+  each-more : (xs : List ℕ) (i : ℕ) → i < length xs → each f (take (i + 1) xs) ≡ each f (take i xs) ++ f (getD xs i 0)
   each-more xs i h = rw (add-one, take-suc xs i 0, each-append (take i xs) (getD xs i 0 ∷ []), append-nil)
 
   pub put-more : (xs : List ℕ) (i : ℕ) → i < length xs → {a b c : List ℕ} {at next end : ℕ}
       → Put a at (each f (take i xs)) b next → Put b next (f (getD xs i 0)) c end → Put a at (each f (take (i + 1) xs)) c end
   put-more xs i h p q = rw (each-more xs i h) (put-put (each f (take i xs)) (f (getD xs i 0)) p q)
 
-  pub each-length : (m : ℕ) → ((x : ℕ) → length (f x) ≡ m) → (xs : List ℕ) → length (each f xs) ≡ length xs * m
+  each-length : (m : ℕ) → ((x : ℕ) → length (f x) ≡ m) → (xs : List ℕ) → length (each f xs) ≡ length xs * m
   each-length m h [] = rw zero-mul
   each-length m h (x ∷ xs) = rw (length-append (f x) (each f xs), h, each-length m h xs, suc-mul) (omega arith)
 
@@ -40,7 +40,7 @@ hexByte-length x = refl
 pub hexWord-length : (x : ℕ) → length (hexWord x) ≡ 5
 hexWord-length x = refl
 
-pub number-length : (n : ℕ) → length (number n) ≤ 2
+number-length : (n : ℕ) → length (number n) ≤ 2
 number-length n = by-digits (ltb n 10)
   where
     by-digits : (small : Bool) → length (cond small (digit n ∷ []) (digit (n / 10) ∷ digit (n % 10) ∷ [])) ≤ 2

@@ -110,7 +110,7 @@ at-end last Torn w records n s e = refl
 at-end last Part w records n s e = refl
 
 -- the part of the block that is left
-pub part-left : (s : List ℕ) (used : ℕ) → take (length s - used) (drop used s) ≡ drop used s
+part-left : (s : List ℕ) (used : ℕ) → take (length s - used) (drop used s) ≡ drop used s
 part-left s used = take-all (length s - used) (drop used s) (rw length-drop (omega arith))
 
 module _ (last : Bool) (s room : List ℕ) (all : Run) {b : Bridge} {memory output : List ℕ} {head : Head} {used written records : ℕ}

@@ -14,15 +14,11 @@ use Rattle.lent.proofs.Rows.{put-none}
 use Rattle.records.specs.declared.Head.{Head}
 use Rattle.records.specs.declared.Head.the-variants.{Whole, Torn, Part}
 use Rattle.records.specs.declared.Printed.{Printed}
-use Rattle.records.specs.declared.Turned.{Turned}
 use Rattle.records.specs.Records.{lengthOf, kindOf, torn, eventOf, headOf}
 use Rattle.records.specs.Lines.{tornLine, lineMost}
 use Rattle.records.specs.Runs.{eventIn}
-use Rattle.records.specs.Printed.{Prints, Turns, isWhole}
+use Rattle.records.specs.Printed.{Prints, turned, Turns, isWhole}
 use Rattle.records.proofs.Heads.{whole-facts}
-
-abbrev turned : Head → Bridge → ℕ → ℕ → Turned
-turned head b used next = record { head = head; bridge = b; used = used; next = next }
 
 -- a head that is not whole says nothing of what goes on
 no : {A : Type 0} {h : Head} → isWhole h ≡ false → h ≡ Whole → A

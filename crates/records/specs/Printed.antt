@@ -4,6 +4,7 @@ use mathlib.Core.Path.{_≡_}
 use mathlib.Core.Bool.{Bool, true, false}
 use mathlib.Core.List.{List, [], _∷_, _++_}
 use lib.ListN.{length, take}
+use Rattle.rules.specs.declared.Bridge.{Bridge}
 use Rattle.rules.specs.Held.{World, world}
 use Rattle.rules.specs.Step.{Event, step}
 use Rattle.held.specs.declared.Outcome.{Outcome}
@@ -41,6 +42,9 @@ remains Part w r = ended false w
 abbrev pub before : List Event → List ℕ → ℕ → Run → Run
 before es lines used r =
     record { events = es ++ r .events; lines = lines ++ r .lines; used = used + r .used; torn = r .torn; world = r .world }
+
+abbrev pub turned : Head → Bridge → ℕ → ℕ → Turned
+turned head b used next = record { head = head; bridge = b; used = used; next = next }
 
 -- the first record of the block s was taken, or why it was not
 pub record Turns (last : Bool) (w : World) (s room : List ℕ) (at : ℕ) (t : Turned) (memory now : List ℕ) : Type 0 where

@@ -7,7 +7,7 @@ ghost use lib.ListN.{length};
 ghost use Rattle.rules.specs.Held.{world};
 ghost use Rattle.records.specs.Records.{torn, eventOf, unfinished as cut, headOf};
 ghost use Rattle.records.specs.Lines.{lineMost, hexByte, hexWord};
-ghost use Rattle.records.specs.Printed.{Line, Prints, Turns};
+ghost use Rattle.records.specs.Printed.{Line, Prints, turned, Turns};
 use crate::Head;
 use crate::Printed;
 use crate::Turned;
@@ -168,6 +168,18 @@ fn print_event(
     }
 }
 
+// Nothing is taken of a block. The next line stands at `next`.
+fn untaken(head: Head, b: Bridge, next: usize) -> Turned
+    ensures { λ t. ⌜ t ≡ turned head b 0 next ⌝ }
+{
+    Turned {
+        head: head,
+        bridge: b,
+        used: 0,
+        next: next,
+    }
+}
+
 // The first record of a block, where it is whole and there is room for its line.
 pub(crate) fn turn(
     b: Bridge,
@@ -182,12 +194,7 @@ pub(crate) fn turn(
     ensures { λ t. ⌜ Turns last (world b (now (memory .entry))) (now (input .entry)) (now (output .entry)) at t (now (memory .exit)) (now (output .exit)) ⌝ }
 {
     if output.len() - at < LINE_MOST {
-        return Turned {
-            head: Head::Part,
-            bridge: b,
-            used: 0,
-            next: at,
-        };
+        return untaken(Head::Part, b, at);
     }
     let head = head_of(input, last);
     match head {
@@ -203,17 +210,7 @@ pub(crate) fn turn(
                 next: p.next,
             }
         }
-        Head::Torn => Turned {
-            head: head,
-            bridge: b,
-            used: 0,
-            next: lines::put_torn(output, at),
-        },
-        Head::Part => Turned {
-            head: head,
-            bridge: b,
-            used: 0,
-            next: at,
-        },
+        Head::Torn => untaken(head, b, lines::put_torn(output, at)),
+        Head::Part => untaken(head, b, at),
     }
 }

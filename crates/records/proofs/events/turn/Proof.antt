@@ -9,10 +9,13 @@ use Rattle.records.proofs.events.turn.Tie as tie
 sub-if1 : tie.Need-sub-if1
 sub-if1 c = search needs
 
+untaken-requires : tie.Need-untaken-requires
+untaken-requires c κs = search needs
+
 returns : tie.Need-returns
 returns c =
-    let start = c .before .before .before .before .before in
-    no-room (start .args .last) (start .args .b) (start .args .memory .now) (start .args .input .now) (start .args .output .now) (start .args .at) (start .pre .1) (c .if1 .taken)
+    let start = c .before .before .before .before .before .before in
+    rw (c .untaken .ensures) (no-room (start .args .last) (start .args .b) (start .args .memory .now) (start .args .input .now) (start .args .output .now) (start .args .at) (start .pre .1) (c .before .if1 .taken))
 
 head-of-requires : tie.Need-head-of-requires
 head-of-requires c κs = search needs
@@ -83,8 +86,14 @@ enum-told-2 c = search needs
 put-torn-requires : tie.Need-put-torn-requires
 put-torn-requires c κs = search needs
 
+untaken-requires-2 : tie.Need-untaken-requires-2
+untaken-requires-2 c κs = search needs
+
 enum-told-3 : tie.Need-enum-told-3
 enum-told-3 c = search needs
+
+untaken-requires-3 : tie.Need-untaken-requires-3
+untaken-requires-3 c κs = search needs
 
 same-length : tie.Need-same-length
 same-length c = search needs
@@ -111,23 +120,26 @@ same-length-4 c = search needs
 
 returns-3 : tie.Need-returns-3
 returns-3 c =
-    let if1 = c .before .before .before .before .before .before .before .if1 in
-    let head-of = c .before .before .before .before .before .before .head-of in
-    let enum-told2 = c .before .before .before .before .enum-told2 in
-    let put-torn = c .before .before .put-torn in
-    let start = c .before .before .before .before .before .before .before .before .before .before .before .before in
-    torn-taken (start .args .last) (start .args .b) (start .args .memory .now) (start .args .input .now) (start .args .output .now) (start .args .at) (start .pre .1) (if1 .left) (head-of .ensures) (enum-told2 .given .1) (put-torn .ensures)
+    let if1 = c .before .before .before .before .before .before .before .before .if1 in
+    let head-of = c .before .before .before .before .before .before .before .head-of in
+    let enum-told2 = c .before .before .before .before .before .enum-told2 in
+    let put-torn = c .before .before .before .put-torn in
+    let start = c .before .before .before .before .before .before .before .before .before .before .before .before .before in
+    rw (c .untaken2 .ensures)
+    (torn-taken (start .args .last) (start .args .b) (start .args .memory .now) (start .args .input .now) (start .args .output .now) (start .args .at) (start .pre .1) (if1 .left) (head-of .ensures) (enum-told2 .given .1) (put-torn .ensures))
 
 returns-4 : tie.Need-returns-4
 returns-4 c =
-    let start = c .before .before .before .before .before .before .before .before in
-    part-taken (start .args .last) (start .args .b) (start .args .memory .now) (start .args .input .now) (start .args .output .now) (start .args .at) (start .pre .1) (c .before .before .before .if1 .left) (c .before .before .head-of .ensures) (c .enum-told3 .given .1)
+    let start = c .before .before .before .before .before .before .before .before .before in
+    rw (c .untaken3 .ensures)
+    (part-taken (start .args .last) (start .args .b) (start .args .memory .now) (start .args .input .now) (start .args .output .now) (start .args .at) (start .pre .1) (c .before .before .before .before .if1 .left) (c .before .before .before .head-of .ensures) (c .before .enum-told3 .given .1))
 
 pub turn-spec : {M : Type 1} → statement M
 turn-spec =
     tie.close
     (tie.spec
     sub-if1
+    untaken-requires
     returns
     head-of-requires
     enum-told
@@ -145,7 +157,9 @@ turn-spec =
     print-event-requires
     enum-told-2
     put-torn-requires
+    untaken-requires-2
     enum-told-3
+    untaken-requires-3
     same-length
     same-length-2
     same-length-3
