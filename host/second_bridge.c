@@ -447,19 +447,9 @@ static uint32_t await_status(struct second_bridge *bridge, uint32_t residue, uin
     return SECOND_DONE;
 }
 
-uint32_t second_packet(struct second_bridge *bridge, const uint8_t *packet, size_t packet_len,
-                       uint16_t *operations, size_t operations_len) {
-    if (bridge->configuration == 0)
-        return SECOND_UNCONFIGURED;
-    if (stopped(bridge) || bridge->halts & SECOND_HALT_OUT)
-        return SECOND_HALTED;
-    if (bridge->phase != SECOND_AWAITING)
-        return SECOND_WRONG_PHASE;
-    if (packet_len != PACKET_LENGTH || load32(packet) != PACKET_SIGNATURE)
-        return stop(bridge, SECOND_PACKET_NOT_VALID);
-    if (!meaningful(packet))
-        return stop(bridge, SECOND_PACKET_NOT_MEANINGFUL);
-
+/* A meaningful packet that the bridge awaits. */
+static uint32_t take_command(struct second_bridge *bridge, const uint8_t *packet,
+                             uint16_t *operations, size_t operations_len) {
     const uint8_t *block = packet + PACKET_BLOCK;
     uint32_t tag = load32(packet + PACKET_TAG);
     uint32_t length = load32(packet + PACKET_TRANSFER_LENGTH);
@@ -479,6 +469,21 @@ uint32_t second_packet(struct second_bridge *bridge, const uint8_t *packet, size
     bridge->direction = direction;
     bridge->phase = SECOND_BUSY;
     return handed_out((uint32_t)count);
+}
+
+uint32_t second_packet(struct second_bridge *bridge, const uint8_t *packet, size_t packet_len,
+                       uint16_t *operations, size_t operations_len) {
+    if (bridge->configuration == 0)
+        return SECOND_UNCONFIGURED;
+    if (stopped(bridge) || bridge->halts & SECOND_HALT_OUT)
+        return SECOND_HALTED;
+    if (bridge->phase != SECOND_AWAITING)
+        return SECOND_WRONG_PHASE;
+    if (packet_len != PACKET_LENGTH || load32(packet) != PACKET_SIGNATURE)
+        return stop(bridge, SECOND_PACKET_NOT_VALID);
+    if (!meaningful(packet))
+        return stop(bridge, SECOND_PACKET_NOT_MEANINGFUL);
+    return take_command(bridge, packet, operations, operations_len);
 }
 
 uint32_t second_report(struct second_bridge *bridge, uint8_t direction, uint8_t failed,

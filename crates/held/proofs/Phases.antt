@@ -31,28 +31,26 @@ clear-by (Stopped reset) false = refl
 
 -- ---- in every phase but one
 
+pub none-awaits : (p : Phase) → OneOf (1 ∷ 2 ∷ 3 ∷ []) (tagOf the-type p) → isAwaiting p ≡ false
+none-awaits Awaiting h = absurd (miss (1 ∷ 2 ∷ 3 ∷ []) 0 tt h)
+none-awaits (Busy tag l direction) h = refl
+none-awaits (StatusWaiting tag residue status) h = refl
+none-awaits (Stopped reset) h = refl
+
 pub none-busy : (p : Phase) → OneOf (0 ∷ 2 ∷ 3 ∷ []) (tagOf the-type p) → isBusy p ≡ false
 none-busy Awaiting h = refl
 none-busy (Busy tag l direction) h = absurd (miss (0 ∷ 2 ∷ 3 ∷ []) 1 tt h)
 none-busy (StatusWaiting tag residue status) h = refl
 none-busy (Stopped reset) h = refl
 
+pub none-waits : (p : Phase) → OneOf (0 ∷ 1 ∷ 3 ∷ []) (tagOf the-type p) → isStatusWaiting p ≡ false
+none-waits Awaiting h = refl
+none-waits (Busy tag l direction) h = refl
+none-waits (StatusWaiting tag residue status) h = absurd (miss (0 ∷ 1 ∷ 3 ∷ []) 2 tt h)
+none-waits (Stopped reset) h = refl
+
 pub none-stopped : (p : Phase) → OneOf (0 ∷ 1 ∷ 2 ∷ []) (tagOf the-type p) → (isStopped p ≡ false) × (clears p ≡ true)
 none-stopped Awaiting h = (refl, refl)
 none-stopped (Busy tag l direction) h = (refl, refl)
 none-stopped (StatusWaiting tag residue status) h = (refl, refl)
 none-stopped (Stopped reset) h = absurd (miss (0 ∷ 1 ∷ 2 ∷ []) 3 tt h)
-
--- ---- in two phases
-
-pub not-waiting : (p : Phase) → OneOf (0 ∷ 1 ∷ []) (tagOf the-type p) → (isStopped p ≡ false) × (isStatusWaiting p ≡ false)
-not-waiting Awaiting h = (refl, refl)
-not-waiting (Busy tag l direction) h = (refl, refl)
-not-waiting (StatusWaiting tag residue status) h = absurd (miss (0 ∷ 1 ∷ []) 2 tt h)
-not-waiting (Stopped reset) h = absurd (miss (0 ∷ 1 ∷ []) 3 tt h)
-
-pub not-awaiting : (p : Phase) → OneOf (1 ∷ 2 ∷ []) (tagOf the-type p) → (isStopped p ≡ false) × (isAwaiting p ≡ false)
-not-awaiting Awaiting h = absurd (miss (1 ∷ 2 ∷ []) 0 tt h)
-not-awaiting (Busy tag l direction) h = (refl, refl)
-not-awaiting (StatusWaiting tag residue status) h = (refl, refl)
-not-awaiting (Stopped reset) h = absurd (miss (1 ∷ 2 ∷ []) 3 tt h)

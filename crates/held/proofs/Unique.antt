@@ -1,7 +1,7 @@
 -- No second outcome: two results that meet a public function's promise are equal, and so are two outcomes of an event with the lent
 -- room as they leave it.
 use mathlib.Core.Path.{_≡_, ap}
-use mathlib.Core.Bool.{Bool, true, false}
+use mathlib.Core.Bool.{Bool, true, false, cond, _||_}
 use mathlib.Core.List.{List, []}
 use Prim.Native.Nat.{ℕ}
 use Rattle.rules.specs.declared.Bridge.{Bridge}
@@ -45,6 +45,9 @@ halted outward inward b r r' p q = only p q
 
 pub halt : (direction : Direction) (b r r' : Bridge) → r ≡ halting direction b → r' ≡ halting direction b → r ≡ r'
 halt direction b r r' p q = only p q
+
+pub «out_of_turn» : (phase : Phase) (mark : Bool) (a a' : ℕ) → a ≡ cond (isStopped phase || mark) 11 16 → a' ≡ cond (isStopped phase || mark) 11 16 → a ≡ a'
+«out_of_turn» phase mark a a' p q = only p q
 
 pub «is_stopped» : (phase : Phase) (r r' : Bool) → r ≡ isStopped phase → r' ≡ isStopped phase → r ≡ r'
 «is_stopped» phase r r' p q = only p q

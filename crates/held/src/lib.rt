@@ -1,6 +1,6 @@
 // What every event is written with: its outcome, and the bridge changed in one respect. The bus reset is such a change.
 ghost use mathlib.Core.Path.{_≡_};
-ghost use mathlib.Core.Bool.{true, false};
+ghost use mathlib.Core.Bool.{true, false, cond, _||_};
 ghost use mathlib.Core.List.{[]};
 ghost use Rattle.held.specs.Outcomes.{outcome, Answers};
 ghost use Rattle.rules.specs.Held.{fresh as freshened, inPhase, halted as marked, halting, isStopped};
@@ -123,4 +123,14 @@ pub fn is_stopped(phase: Phase) -> bool
         } => false,
         Phase::Stopped { reset: _ } => true,
     }
+}
+
+// The answer to an event that its phase does not allow: 11 where the bridge is stopped or the event's pipe is halted, else 16.
+pub fn out_of_turn(phase: Phase, halted: bool) -> u8
+    ensures { λ a. ⌜ a ≡ cond (isStopped phase || halted) 11 16 ⌝ }
+{
+    if is_stopped(phase) | halted {
+        return answers::HALTED;
+    }
+    answers::WRONG_PHASE
 }

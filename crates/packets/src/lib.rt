@@ -9,6 +9,7 @@ ghost use Rattle.rules.specs.Step.{Packet};
 ghost use Rattle.rules.specs.Stopping.{stop};
 ghost use Rattle.rules.specs.Packets.{commandLayout, commandOf, valid, meaningful, directionOf, commandTaken};
 use held::Outcome;
+use held::out_of_turn;
 use held::refused;
 use passthrough::Judgement;
 use rules::Bridge;
@@ -166,12 +167,7 @@ pub fn packet(b: Bridge, packet: &[u8], operations: &mut [u16]) -> Outcome
             tag: _,
             residue: _,
             status: _,
-        } => {
-            if b.halts.outward {
-                return refused(answers::HALTED, b);
-            }
-            refused(answers::WRONG_PHASE, b)
         }
-        Phase::Stopped { reset: _ } => refused(answers::HALTED, b),
+        | Phase::Stopped { reset: _ } => refused(out_of_turn(phase, b.halts.outward), b),
     }
 }

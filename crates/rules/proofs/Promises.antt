@@ -15,7 +15,7 @@ use Rattle.rules.specs.declared.Request.the-variants.{SetConfiguration, 
 use Rattle.rules.specs.declared.Setup.{Setup}
 use Rattle.rules.specs.declared.Status.{Status}
 use Rattle.rules.specs.Words.{laid}
-use Rattle.rules.specs.Held.{World, world, sizeOf, inPhase, fresh}
+use Rattle.rules.specs.Held.{World, world, sizeOf, isAwaiting, isStatusWaiting, isStopped, inPhase, fresh}
 use Rattle.rules.specs.Requests.{setupOf, requestOf, bridgeAfter}
 use Rattle.rules.specs.Packets.{commandOf, recognises, commandTaken, statusPacket}
 use Rattle.rules.specs.Reports.{directionNumber, mismatch, reportTaken}
@@ -90,6 +90,27 @@ module _ (b : Bridge) (room : List ℕ) where
       → Told b StatusRequest room 0 13 false (inPhase Awaiting b) (laid (statusPacket tag residue status) room)
   unfolding step
   status-done tag residue status h a m = rw (a, h)
+
+-- ---- packets and status requests that their phase does not allow: 11 comes before 16
+
+module _ (b : Bridge) (configured : b .configured ≡ true) where
+  pub packet-untimely : (p room : List ℕ) → isAwaiting (b .phase) ≡ false → {a : ℕ} → a ≡ cond (isStopped (b .phase) || b .halts .outward) 11 16
+      → Told b (Packet p) room a 0 true b room
+  unfolding packetAnswer
+  packet-untimely p room w e = rw e (go (isStopped (b .phase) || b .halts .outward) refl)
+    where
+      go : (t : Bool) → (isStopped (b .phase) || b .halts .outward) ≡ t → Told b (Packet p) room (cond t 11 16) 0 true b room
+      go true k = packet-refused b p room 11 (rw (configured, k)) refl
+      go false k = packet-refused b p room 16 (rw (configured, k, w)) refl
+
+  pub status-untimely : (room : List ℕ) → isStatusWaiting (b .phase) ≡ false → {a : ℕ} → a ≡ cond (isStopped (b .phase) || b .halts .inward) 11 16
+      → Told b StatusRequest room a 0 true b room
+  unfolding statusAnswer
+  status-untimely room w e = rw e (go (isStopped (b .phase) || b .halts .inward) refl)
+    where
+      go : (t : Bool) → (isStopped (b .phase) || b .halts .inward) ≡ t → Told b StatusRequest room (cond t 11 16) 0 true b room
+      go true k = status-refused b room 11 (rw (configured, k)) refl
+      go false k = status-refused b room 16 (rw (configured, k, w)) refl
 
 -- "Else status is failed and residue is L minus amount": which is then at most L
 pub amount-fits : (l : ℕ) (host : Direction) (direction amount : ℕ) → mismatch l host direction amount ≡ false → amount ≤ l

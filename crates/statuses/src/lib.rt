@@ -5,6 +5,7 @@ ghost use Rattle.held.specs.Outcomes.{Answers};
 ghost use Rattle.rules.specs.Step.{StatusRequest};
 ghost use Rattle.rules.specs.Packets.{statusPacket};
 use held::Outcome;
+use held::out_of_turn;
 use held::refused;
 use rules::Bridge;
 use rules::Phase;
@@ -69,12 +70,7 @@ pub fn status(b: Bridge, reply: &mut [u8]) -> Outcome
             tag: _,
             length: _,
             direction: _,
-        } => {
-            if b.halts.inward {
-                return refused(answers::HALTED, b);
-            }
-            refused(answers::WRONG_PHASE, b)
         }
-        Phase::Stopped { reset: _ } => refused(answers::HALTED, b),
+        | Phase::Stopped { reset: _ } => refused(out_of_turn(phase, b.halts.inward), b),
     }
 }

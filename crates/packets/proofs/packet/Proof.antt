@@ -1,6 +1,6 @@
 -- `packets::packet` meets its contract.
-use Rattle.held.proofs.Phases.{not-awaiting}
-use Rattle.rules.proofs.Promises.{packet-refused}
+use Rattle.held.proofs.Phases.{none-awaits}
+use Rattle.rules.proofs.Promises.{packet-refused, packet-untimely}
 use Rattle.rules.specs.Answers.{packetAnswer}
 use borrow.Author.Tests.{not-true, not-false}
 use mathlib.Core.Path.{refl}
@@ -33,37 +33,22 @@ awaited-requires c κs =
       awaits = c .before .before .enum-told .given .1;
     }
 
+out-of-turn-requires : tie.Need-out-of-turn-requires
+out-of-turn-requires c κs = search needs
+
 refused-requires-3 : tie.Need-refused-requires-3
 refused-requires-3 c κs = search needs
-
-returns-3 : tie.Need-returns-3
-unfolding packetAnswer
-returns-3 c = rw (c .refused3 .ensures) (packet-refused _ _ _ 11 (rw (not-false (c .before .before .before .before .before .before .before .args .b .configured) (c .before .before .before .if1 .left), not-awaiting (c .before .before .before .before .before .before .before .args .b .phase) (c .before .before .match .keys2) .0, c .before .if3 .taken)) refl)
-
-refused-requires-4 : tie.Need-refused-requires-4
-refused-requires-4 c κs = search needs
-
-enum-told-2 : tie.Need-enum-told-2
-enum-told-2 c = search needs
-
-refused-requires-5 : tie.Need-refused-requires-5
-refused-requires-5 c κs = search needs
 
 same-length : tie.Need-same-length
 same-length c = search needs
 
+returns-3 : tie.Need-returns-3
+returns-3 c = search needs
+
 returns-4 : tie.Need-returns-4
-returns-4 c = search needs
-
-returns-5 : tie.Need-returns-5
-unfolding packetAnswer
-returns-5 c =
-    let wrong = not-awaiting (c .before .before .before .before .before .before .before .args .b .phase) (c .before .before .match .keys2) in
-    rw (c .refused4 .ensures) (packet-refused _ _ _ 16 (rw (not-false (c .before .before .before .before .before .before .before .args .b .configured) (c .before .before .before .if1 .left), wrong .0, c .before .if3 .left, wrong .1)) refl)
-
-returns-6 : tie.Need-returns-6
-unfolding packetAnswer
-returns-6 c = rw (c .refused5 .ensures) (packet-refused _ _ _ 11 (rw (not-false (c .before .before .before .before .before .before .before .args .b .configured) (c .before .before .before .if1 .left), c .before .enum-told2 .given .1)) refl)
+returns-4 c =
+    let b = c .before .before .before .before .before .before .before .args .b in
+    rw (c .refused3 .ensures) (packet-untimely b (not-false (b .configured) (c .before .before .before .if1 .left)) _ _ (none-awaits (b .phase) (c .before .before .match .keys2)) (c .before .out-of-turn .ensures))
 
 pub packet-spec : {M : Type 1} → statement M
 packet-spec =
@@ -75,12 +60,8 @@ packet-spec =
     refused-requires-2
     returns-2
     awaited-requires
+    out-of-turn-requires
     refused-requires-3
-    returns-3
-    refused-requires-4
-    enum-told-2
-    refused-requires-5
     same-length
-    returns-4
-    returns-5
-    returns-6)
+    returns-3
+    returns-4)
