@@ -48,9 +48,10 @@ fn load_memory(s: Setup, host: &[u8], memory: &mut [u8])
     requires { ⌜ (s .value ≡ 2 → s .index + s .length ≤ length (now memory)) × (length (now host) ≡ s .length) ⌝ }
     ensures { λ u. ⌜ now (memory .exit) ≡ memoryAfter Request.LoadConfigData s (now (host .entry)) (now (memory .entry)) ⌝ }
 {
-    if s.value == MEMORY {
-        lent::copy(memory, s.index as usize, host);
+    if s.value != MEMORY {
+        return;
     }
+    lent::copy(memory, s.index as usize, host);
 }
 
 // The configuration bytes, with the host's at their addresses if those are not the memory's.
