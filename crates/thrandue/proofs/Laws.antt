@@ -2,9 +2,10 @@
 use mathlib.Core.Path.{_≡_, refl, sym, ap, ap₂, subst, _∙_}
 use mathlib.Core.Bool.{true, false, cond}
 use mathlib.Core.List.{List, [], _∷_, _++_, append-nil}
-use Prim.Native.Nat.{ℕ, zero, suc, _+_, _-_, _*_, _≤_, min}
+use Prim.Native.Nat.{ℕ, zero, suc, _+_, _-_, _*_, _≤_, _<_, min}
 use native.Mathlib.Omega.{arith}
-use lib.ListN.{length, replicate, take, drop, drop-of-length-le, set}
+use lib.Dec.{eqb}
+use lib.ListN.{length, replicate, take, drop, drop-of-length-le, getD, set}
 use lib.Seq.{paste, drop-cons}
 use borrow.Author.Tests.{eq-eqb, ne-eqb}
 use types.Run.{OneOf, miss}
@@ -146,6 +147,14 @@ pub is-read : (f : Bridge → ℕ) (image : List ℕ) {b : Bridge} → length im
 is-read f image h e = rw (eq-eqb (length image) 25 h) (ap f e)
 
 -- ---- numbers of a phase
+
+-- one of three, from a row of four
+pub of-three : {A : Type 0} (a b c : A) (n : ℕ) → n < 4 → getD (a ∷ b ∷ c ∷ c ∷ []) n a ≡ cond (eqb n 0) a (cond (eqb n 1) b c)
+of-three a b c zero h = refl
+of-three a b c (suc zero) h = refl
+of-three a b c (suc (suc zero)) h = refl
+of-three a b c (suc (suc (suc zero))) h = refl
+of-three a b c (suc (suc (suc (suc n)))) h = absurd (omega arith)
 
 pub direction-most : (d : Direction) → directionNumber d ≤ 2
 direction-most None = omega arith

@@ -51,11 +51,11 @@ module _ (c o i : Bool) where
   kind : (k n : ℕ) → n ≤ 3 → marked (64 * k + n) / 64 ≡ k
   kind k n h = omega (arith, one-most c, one-most o, one-most i)
 
-  note-0 : (k n : ℕ) → n ≤ 3 → bitOf 0 (marked (64 * k + n)) ≡ n % 2
-  note-0 k n h = omega (arith, one-most c, one-most o, one-most i)
+  note : (k n : ℕ) → n ≤ 3 → marked (64 * k + n) % 4 ≡ n
+  note k n h = omega (arith, one-most c, one-most o, one-most i)
 
-  note-1 : (k n : ℕ) → n ≤ 3 → bitOf 1 (marked (64 * k + n)) ≡ n / 2 % 2
-  note-1 k n h = omega (arith, one-most c, one-most o, one-most i)
+  lowest : (k n : ℕ) → n ≤ 3 → bitOf 0 (marked (64 * k + n)) ≡ n % 2
+  lowest k n h = omega (arith, one-most c, one-most o, one-most i)
 
   flags : (k n : ℕ) → n ≤ 3 → (let m : ℕ = marked (64 * k + n) in (bit 2 m ≡ c) × (bit 3 m ≡ o) × (bit 4 m ≡ i))
   flags k n h =
@@ -69,14 +69,14 @@ module _ (c o i : Bool) where
       )
 
   direction-back : (d : Direction) → directionFrom (marked (64 * 1 + directionNumber d)) ≡ d
-  direction-back None = rw (note-0 1 0 (omega arith), note-1 1 0 (omega arith))
-  direction-back In = rw (note-0 1 1 (omega arith), note-1 1 1 (omega arith))
-  direction-back Out = rw (note-1 1 2 (omega arith))
+  direction-back None = rw (note 1 0 (omega arith))
+  direction-back In = rw (note 1 1 (omega arith))
+  direction-back Out = rw (note 1 2 (omega arith))
 
   status-back : (s : Status) → statusFrom (marked (64 * 2 + statusNumber s)) ≡ s
-  status-back Passed = rw (note-0 2 0 (omega arith), note-1 2 0 (omega arith))
-  status-back Failed = rw (note-0 2 1 (omega arith), note-1 2 1 (omega arith))
-  status-back PhaseError = rw (note-1 2 2 (omega arith))
+  status-back Passed = rw (note 2 0 (omega arith))
+  status-back Failed = rw (note 2 1 (omega arith))
+  status-back PhaseError = rw (note 2 2 (omega arith))
 
 -- a phase with other numbers
 abbrev numbered : Phase → ℕ → ℕ → Phase
@@ -97,9 +97,9 @@ marks-back (StatusWaiting tag residue s) c o i t a =
     let n : statusNumber s ≤ 3 = omega (arith, status-most s) in
     (rw (kind c o i 2 (statusNumber s) n) (ap (StatusWaiting t a) (status-back c o i s)), flags c o i 2 (statusNumber s) n)
 marks-back (Stopped true) c o i t a =
-    (rw (kind c o i 3 1 (omega arith), note-0 c o i 3 1 (omega arith)), flags c o i 3 1 (omega arith))
+    (rw (kind c o i 3 1 (omega arith), lowest c o i 3 1 (omega arith)), flags c o i 3 1 (omega arith))
 marks-back (Stopped false) c o i t a =
-    (rw (kind c o i 3 0 (omega arith), note-0 c o i 3 0 (omega arith)), flags c o i 3 0 (omega arith))
+    (rw (kind c o i 3 0 (omega arith), lowest c o i 3 0 (omega arith)), flags c o i 3 0 (omega arith))
 
 -- ---- the numbers
 

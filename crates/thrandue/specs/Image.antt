@@ -1,6 +1,6 @@
 -- The image of a bridge: twenty-five bytes that stand for its state. Any twenty-five bytes stand for some state.
 use mathlib.Core.Path.{_≡_}
-use Prim.Native.Nat.{ℕ, zero, suc, _+_, _*_, _/_, _^_, _<_}
+use Prim.Native.Nat.{ℕ, zero, suc, _+_, _*_, _/_, _%_, _^_, _<_}
 use mathlib.Core.Bool.{cond}
 use mathlib.Core.List.{List, [], _∷_, _++_}
 use lib.ListN.{length, take}
@@ -37,10 +37,10 @@ abbrev pub marksOf : Bridge → ℕ
 marksOf b = codeOf (b .phase) + 4 * one (b .configured) + 8 * one (b .halts .outward) + 16 * one (b .halts .inward)
 
 abbrev pub directionFrom : ℕ → Direction
-directionFrom marks = cond (bit 1 marks) Out (cond (bit 0 marks) In None)
+directionFrom marks = cond (eqb (marks % 4) 0) None (cond (eqb (marks % 4) 1) In Out)
 
 abbrev pub statusFrom : ℕ → Status
-statusFrom marks = cond (bit 1 marks) PhaseError (cond (bit 0 marks) Failed Passed)
+statusFrom marks = cond (eqb (marks % 4) 0) Passed (cond (eqb (marks % 4) 1) Failed PhaseError)
 
 abbrev pub phaseFrom : ℕ → ℕ → ℕ → Phase
 phaseFrom marks tag amount =

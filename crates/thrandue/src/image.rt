@@ -26,28 +26,29 @@ const MARKS: usize = 24;
 fn direction_from(marks: u8) -> Direction
     ensures { λ r. ⌜ r ≡ directionFrom marks ⌝ }
 {
-    if marks / 2 % 2 == 1 {
-        return Direction::Out;
-    }
-    if marks / 1 % 2 == 1 {
-        return Direction::In;
-    }
-    Direction::None
+    let directions = [
+        Direction::None,
+        Direction::In,
+        Direction::Out,
+        Direction::Out,
+    ];
+    directions[(marks % 4) as usize]
 }
 
 fn status_from(marks: u8) -> Status
     ensures { λ r. ⌜ r ≡ statusFrom marks ⌝ }
 {
-    if marks / 2 % 2 == 1 {
-        return Status::PhaseError;
-    }
-    if marks / 1 % 2 == 1 {
-        return Status::Failed;
-    }
-    Status::Passed
+    let statuses = [
+        Status::Passed,
+        Status::Failed,
+        Status::PhaseError,
+        Status::PhaseError,
+    ];
+    statuses[(marks % 4) as usize]
 }
 
-// Direction and status are read beforehand: then no arm does more than put a phase together, and none costs a jump.
+// Direction and status are read beforehand: then no arm does more than put a phase together, and none costs a jump. They are read from a
+// row, for which the compiler waits until they are wanted.
 fn phase_from(marks: u8, tag: u32, amount: u32) -> Phase
     ensures { λ r. ⌜ r ≡ phaseFrom marks tag amount ⌝ }
 {

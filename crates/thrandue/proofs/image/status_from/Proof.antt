@@ -1,16 +1,19 @@
 -- `thrandue::image::status_from` meets its contract.
-use borrow.Author.Tests.{ne-eqb}
+use Rattle.thrandue.proofs.Laws.{of-three}
+use native.Mathlib.Omega.{arith}
+use Prim.Native.Nat.{_%_}
+use borrow.Author.Needs.{needs}
 use Rattle.thrandue.proofs.image.status_from.Statement.{statement}
 use Rattle.thrandue.proofs.image.status_from.Tie as tie
 
+cast-result : tie.Need-cast-result
+cast-result c = search needs
+
+array-copy-out-result : tie.Need-array-copy-out-result
+array-copy-out-result c = search needs
+
 returns : tie.Need-returns
-returns c = rw (c .if1 .taken)
-
-returns-2 : tie.Need-returns-2
-returns-2 c = rw (ne-eqb _ 1 (c .before .if1 .left), c .if2 .taken)
-
-returns-3 : tie.Need-returns-3
-returns-3 c = rw (ne-eqb _ 1 (c .before .if1 .left), ne-eqb _ 1 (c .if2 .left))
+returns c = of-three _ _ _ (c .before .args .marks % 4) (omega arith)
 
 pub status-from-spec : {M : Type 1} → statement M
-status-from-spec = tie.close (tie.spec returns returns-2 returns-3)
+status-from-spec = tie.close (tie.spec cast-result array-copy-out-result returns)
