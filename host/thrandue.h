@@ -11,7 +11,8 @@ extern "C" {
 #endif
 
 /* The state is an image of THRANDUE_IMAGE bytes that the caller keeps. thrandue_power_on makes it;
- * any bytes stand for some state, and only the calls below write it.
+ * any bytes stand for some state, and only the calls below write it. Two images of one state may
+ * differ: what a finished command held stays in them until the next.
  *
  * The caller answers for this: pointers are valid for their lengths and do not overlap; the same
  * memory is lent at every thrandue_control, and nobody else writes it; one call at a time. A slice

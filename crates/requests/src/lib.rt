@@ -62,6 +62,7 @@ fn is_configuration(s: Setup) -> bool
     ((s.value == 0) | (s.value == 2)) & (s.index == 0)
 }
 
+// A test for each pipe, on which the compiler jumps: of the two joined it makes numbers first.
 fn is_pipe(s: Setup) -> bool
     ensures { λ r. ⌜ r ≡ (eqb (s .value) 0 && (eqb (s .index) bulkOut || eqb (s .index) bulkIn)) ⌝ }
 {

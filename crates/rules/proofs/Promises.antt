@@ -93,24 +93,28 @@ module _ (b : Bridge) (room : List ℕ) where
 
 -- ---- packets and status requests that their phase does not allow: 11 comes before 16
 
+by-test : (P : ℕ → Type 0) (t : Bool) {m n : ℕ} → (t ≡ true → P m) → (t ≡ false → P n) → P (cond t m n)
+by-test P true f g = f refl
+by-test P false f g = g refl
+
 module _ (b : Bridge) (configured : b .configured ≡ true) where
   pub packet-untimely : (p room : List ℕ) → isAwaiting (b .phase) ≡ false → {a : ℕ} → a ≡ cond (isStopped (b .phase) || b .halts .outward) 11 16
       → Told b (Packet p) room a 0 true b room
   unfolding packetAnswer
-  packet-untimely p room w e = rw e (go (isStopped (b .phase) || b .halts .outward) refl)
-    where
-      go : (t : Bool) → (isStopped (b .phase) || b .halts .outward) ≡ t → Told b (Packet p) room (cond t 11 16) 0 true b room
-      go true k = packet-refused b p room 11 (rw (configured, k)) refl
-      go false k = packet-refused b p room 16 (rw (configured, k, w)) refl
+  packet-untimely p room w e =
+      rw e
+      (by-test (λ a. Told b (Packet p) room a 0 true b room) (isStopped (b .phase) || b .halts .outward)
+      (λ k. packet-refused b p room 11 (rw (configured, k)) refl)
+      (λ k. packet-refused b p room 16 (rw (configured, k, w)) refl))
 
   pub status-untimely : (room : List ℕ) → isStatusWaiting (b .phase) ≡ false → {a : ℕ} → a ≡ cond (isStopped (b .phase) || b .halts .inward) 11 16
       → Told b StatusRequest room a 0 true b room
   unfolding statusAnswer
-  status-untimely room w e = rw e (go (isStopped (b .phase) || b .halts .inward) refl)
-    where
-      go : (t : Bool) → (isStopped (b .phase) || b .halts .inward) ≡ t → Told b StatusRequest room (cond t 11 16) 0 true b room
-      go true k = status-refused b room 11 (rw (configured, k)) refl
-      go false k = status-refused b room 16 (rw (configured, k, w)) refl
+  status-untimely room w e =
+      rw e
+      (by-test (λ a. Told b StatusRequest room a 0 true b room) (isStopped (b .phase) || b .halts .inward)
+      (λ k. status-refused b room 11 (rw (configured, k)) refl)
+      (λ k. status-refused b room 16 (rw (configured, k, w)) refl))
 
 -- "Else status is failed and residue is L minus amount": which is then at most L
 pub amount-fits : (l : ℕ) (host : Direction) (direction amount : ℕ) → mismatch l host direction amount ≡ false → amount ≤ l

@@ -130,10 +130,10 @@ module _ (image memory : List ℕ) (event : ℕ → Event) (room : List ℕ) (o 
       (ap (λ (x : Left). called (returns true (x .answer) (x .count)) (imageLeft true (x .kept) (x .bridge) image) (x .memory) (x .room)) so)
 
   -- an event that writes no configuration byte
-  pub bytes-left : {returned : ℕ} {image' : List ℕ} → isWrite (event (length room)) ≡ false
+  pub rest-left : {returned : ℕ} {image' : List ℕ} → isWrite (event (length room)) ≡ false
       → (returned ≡ o .answer + 256 * o .count) × (image' ≡ cond (o .kept) image (row 0 16 image ++ restOf image (o .bridge)))
       → called returned image' memory' room' ≡ calls image memory event room
-  bytes-left w r =
+  rest-left w r =
       let stay : o .bridge .bytes ≡ take 16 image =
       ap (λ (x : Left). x .bridge .bytes) so ∙ no-other-writes (world (decode image) memory) (event (length room)) w .0 in
       image-left (r .0, r .1 ∙ ap (cond (o .kept) image) (bytes-stay image h (o .bridge) stay))

@@ -2,9 +2,9 @@
 ghost use mathlib.Core.Path.{_≡_};
 ghost use mathlib.Core.Bool.{cond};
 ghost use mathlib.Core.List.{_++_};
-ghost use Prim.Native.Nat.{_+_, _*_};
+ghost use Prim.Native.Nat.{_+_, _*_, _≤_};
 ghost use lib.ListN.{length};
-ghost use Rattle.rules.specs.Words.{bytes4};
+ghost use Rattle.rules.specs.Words.{bytes4, long};
 ghost use Rattle.thrandue.specs.Image.{imageLength, directionFrom, statusFrom, phaseFrom, codeOf, marksOf, row, numbersOf, restOf, encode, decode};
 ghost use Rattle.thrandue.specs.Calls.{phaseNumber};
 use bridge::Outcome;
@@ -72,6 +72,14 @@ fn phase_from(marks: u8, tag: u32, amount: u32) -> Phase
     }
 }
 
+// The 32-bit number that stands at a place.
+fn number_at(image: &[u8], at: usize) -> u32
+    requires { ⌜ at + 4 ≤ length (now image) ⌝ }
+    ensures { λ r. ⌜ r ≡ long at (now (image .entry)) ⌝ }
+{
+    lent::long(image[at], image[at + 1], image[at + 2], image[at + 3])
+}
+
 // The state that the image stands for.
 pub(crate) fn load(image: &[u8]) -> Bridge
     requires { ⌜ length (now image) ≡ imageLength ⌝ }
@@ -79,8 +87,8 @@ pub(crate) fn load(image: &[u8]) -> Bridge
 {
     let mut bytes = [0u8; 16];
     lent::copy(&mut bytes, 0, image);
-    let tag = lent::long(image[16], image[17], image[18], image[19]);
-    let amount = lent::long(image[20], image[21], image[22], image[23]);
+    let tag = number_at(image, TAG);
+    let amount = number_at(image, AMOUNT);
     let marks = image[MARKS];
     Bridge {
         configured: marks / 4 % 2 == 1,
@@ -206,7 +214,7 @@ pub(crate) fn leave(image: &mut [u8], o: Outcome) -> u32
 }
 
 // What any other event leaves and returns: it changes no configuration byte, so that none is written.
-pub(crate) fn leave_bytes(image: &mut [u8], o: Outcome) -> u32
+pub(crate) fn leave_rest(image: &mut [u8], o: Outcome) -> u32
     requires { ⌜ length (now image) ≡ imageLength ⌝ }
     ensures { λ r. ⌜ (r ≡ o .answer + 256 * o .count) × (now (image .exit) ≡ cond (o .kept) (now (image .entry)) (row 0 16 (now (image .entry)) ++ restOf (now (image .entry)) (o .bridge))) ⌝ }
 {

@@ -32,7 +32,7 @@ pub extern "C" fn thrandue_bus_reset(image: &mut [u8]) -> u32
         return NO_IMAGE as u32;
     }
     let b = image::load(image);
-    image::leave_bytes(image, bridge::bus_reset(b))
+    image::leave_rest(image, bridge::bus_reset(b))
 }
 
 #[no_mangle]
@@ -60,7 +60,7 @@ pub extern "C" fn thrandue_packet(image: &mut [u8], packet: &[u8], operations: &
         return NO_IMAGE as u32;
     }
     let b = image::load(image);
-    image::leave_bytes(image, bridge::packet(b, packet, operations))
+    image::leave_rest(image, bridge::packet(b, packet, operations))
 }
 
 #[no_mangle]
@@ -71,7 +71,7 @@ pub extern "C" fn thrandue_report(image: &mut [u8], direction: u8, failed: u8, a
         return NO_IMAGE as u32;
     }
     let b = image::load(image);
-    image::leave_bytes(image, bridge::report(b, direction, failed, amount))
+    image::leave_rest(image, bridge::report(b, direction, failed, amount))
 }
 
 #[no_mangle]
@@ -82,7 +82,7 @@ pub extern "C" fn thrandue_status(image: &mut [u8], reply: &mut [u8]) -> u32
         return NO_IMAGE as u32;
     }
     let b = image::load(image);
-    image::leave_bytes(image, bridge::status(b, reply))
+    image::leave_rest(image, bridge::status(b, reply))
 }
 
 #[no_mangle]

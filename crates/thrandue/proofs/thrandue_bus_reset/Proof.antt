@@ -3,7 +3,7 @@ use mathlib.Core.List.{[]}
 use mathlib.Core.Path.{refl}
 use borrow.Author.Needs.{needs}
 use Rattle.rules.specs.Step.{BusReset}
-use Rattle.thrandue.proofs.Laws.{no-image, bytes-left}
+use Rattle.thrandue.proofs.Laws.{no-image, rest-left}
 use Rattle.thrandue.proofs.thrandue_bus_reset.Statement.{statement}
 use Rattle.thrandue.proofs.thrandue_bus_reset.Tie as tie
 
@@ -19,14 +19,14 @@ load-requires c κs = search needs
 bus-reset-requires : tie.Need-bus-reset-requires
 bus-reset-requires c κs = search needs
 
-leave-bytes-requires : tie.Need-leave-bytes-requires
-leave-bytes-requires c κs = search needs
+leave-rest-requires : tie.Need-leave-rest-requires
+leave-rest-requires c κs = search needs
 
 same-length : tie.Need-same-length
 same-length c = search needs
 
 returns-2 : tie.Need-returns-2
-returns-2 c = λ m. bytes-left (c .before .before .before .before .before .before .before .before .before .args .image .now) m (λ n. BusReset) [] (c .before .before .before .bus-reset .result) (c .before .before .before .before .before .before .before .if1 .left) (c .before .before .before .before .before .load .ensures) (c .before .before .before .bus-reset .ensures m) refl (c .before .before .leave-bytes .ensures)
+returns-2 c = λ m. rest-left (c .before .before .before .before .before .before .before .before .before .args .image .now) m (λ n. BusReset) [] (c .before .before .before .bus-reset .result) (c .before .before .before .before .before .before .before .if1 .left) (c .before .before .before .before .before .load .ensures) (c .before .before .before .bus-reset .ensures m) refl (c .before .before .leave-rest .ensures)
 
 pub thrandue-bus-reset-spec : {M : Type 1} → statement M
 thrandue-bus-reset-spec =
@@ -36,6 +36,6 @@ thrandue-bus-reset-spec =
     returns
     load-requires
     bus-reset-requires
-    leave-bytes-requires
+    leave-rest-requires
     same-length
     returns-2)

@@ -2,7 +2,7 @@
 use mathlib.Core.Path.{refl}
 use borrow.Author.Needs.{needs}
 use Rattle.rules.specs.Step.{Packet}
-use Rattle.thrandue.proofs.Laws.{no-image, bytes-left}
+use Rattle.thrandue.proofs.Laws.{no-image, rest-left}
 use Rattle.thrandue.proofs.thrandue_packet.Statement.{statement}
 use Rattle.thrandue.proofs.thrandue_packet.Tie as tie
 
@@ -20,8 +20,8 @@ load-requires c κs = search needs
 packet-requires : tie.Need-packet-requires
 packet-requires c κs = search needs
 
-leave-bytes-requires : tie.Need-leave-bytes-requires
-leave-bytes-requires c κs = search needs
+leave-rest-requires : tie.Need-leave-rest-requires
+leave-rest-requires c κs = search needs
 
 same-length : tie.Need-same-length
 same-length c = search needs
@@ -35,9 +35,9 @@ returns-2 c =
     let if1 = c .before .before .before .before .before .before .before .before .before .before .if1 in
     let load = c .before .before .before .before .before .before .before .before .load in
     let packet = c .before .before .before .before .before .packet in
-    let leave = c .before .before .leave-bytes in
+    let leave = c .before .before .leave-rest in
     let at = start .args in
-    λ m. bytes-left (at .image .now) m (Packet (at .packet .now)) (at .operations .now) (packet .result) (if1 .left) (load .ensures) (packet .ensures m) refl (leave .ensures)
+    λ m. rest-left (at .image .now) m (Packet (at .packet .now)) (at .operations .now) (packet .result) (if1 .left) (load .ensures) (packet .ensures m) refl (leave .ensures)
 
 pub thrandue-packet-spec : {M : Type 1} → statement M
 thrandue-packet-spec =
@@ -47,7 +47,7 @@ thrandue-packet-spec =
     returns
     load-requires
     packet-requires
-    leave-bytes-requires
+    leave-rest-requires
     same-length
     same-length-2
     returns-2)

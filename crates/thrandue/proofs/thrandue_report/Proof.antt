@@ -3,7 +3,7 @@ use mathlib.Core.List.{[]}
 use mathlib.Core.Path.{refl}
 use borrow.Author.Needs.{needs}
 use Rattle.rules.specs.Step.{Report}
-use Rattle.thrandue.proofs.Laws.{no-image, bytes-left}
+use Rattle.thrandue.proofs.Laws.{no-image, rest-left}
 use Rattle.thrandue.proofs.thrandue_report.Statement.{statement}
 use Rattle.thrandue.proofs.thrandue_report.Tie as tie
 
@@ -21,8 +21,8 @@ load-requires c κs = search needs
 report-requires : tie.Need-report-requires
 report-requires c κs = search needs
 
-leave-bytes-requires : tie.Need-leave-bytes-requires
-leave-bytes-requires c κs = search needs
+leave-rest-requires : tie.Need-leave-rest-requires
+leave-rest-requires c κs = search needs
 
 same-length : tie.Need-same-length
 same-length c = search needs
@@ -30,7 +30,7 @@ same-length c = search needs
 returns-2 : tie.Need-returns-2
 returns-2 c =
     let at = c .before .before .before .before .before .before .before .before .before .args in
-    λ m. bytes-left (at .image .now) m (λ n. Report (at .direction) (at .failed) (at .amount)) [] (c .before .before .before .report .result) (c .before .before .before .before .before .before .before .if1 .left) (c .before .before .before .before .before .load .ensures) (c .before .before .before .report .ensures m) refl (c .before .before .leave-bytes .ensures)
+    λ m. rest-left (at .image .now) m (λ n. Report (at .direction) (at .failed) (at .amount)) [] (c .before .before .before .report .result) (c .before .before .before .before .before .before .before .if1 .left) (c .before .before .before .before .before .load .ensures) (c .before .before .before .report .ensures m) refl (c .before .before .leave-rest .ensures)
 
 pub thrandue-report-spec : {M : Type 1} → statement M
 thrandue-report-spec =
@@ -40,6 +40,6 @@ thrandue-report-spec =
     returns
     load-requires
     report-requires
-    leave-bytes-requires
+    leave-rest-requires
     same-length
     returns-2)

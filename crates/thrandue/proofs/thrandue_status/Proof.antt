@@ -2,7 +2,7 @@
 use mathlib.Core.Path.{refl}
 use borrow.Author.Needs.{needs}
 use Rattle.rules.specs.Step.{StatusRequest}
-use Rattle.thrandue.proofs.Laws.{no-image, bytes-left}
+use Rattle.thrandue.proofs.Laws.{no-image, rest-left}
 use Rattle.thrandue.proofs.thrandue_status.Statement.{statement}
 use Rattle.thrandue.proofs.thrandue_status.Tie as tie
 
@@ -18,8 +18,8 @@ load-requires c κs = search needs
 status-requires : tie.Need-status-requires
 status-requires c κs = search needs
 
-leave-bytes-requires : tie.Need-leave-bytes-requires
-leave-bytes-requires c κs = search needs
+leave-rest-requires : tie.Need-leave-rest-requires
+leave-rest-requires c κs = search needs
 
 same-length : tie.Need-same-length
 same-length c = search needs
@@ -30,7 +30,7 @@ same-length-2 c = search needs
 returns-2 : tie.Need-returns-2
 returns-2 c =
     let at = c .before .before .before .before .before .before .before .before .before .before .before .before .before .args in
-    λ m. bytes-left (at .image .now) m (StatusRequest) (at .reply .now) (c .before .before .before .before .before .status .result) (c .before .before .before .before .before .before .before .before .before .before .if1 .left) (c .before .before .before .before .before .before .before .before .load .ensures) (c .before .before .before .before .before .status .ensures m) refl (c .before .before .leave-bytes .ensures)
+    λ m. rest-left (at .image .now) m (StatusRequest) (at .reply .now) (c .before .before .before .before .before .status .result) (c .before .before .before .before .before .before .before .before .before .before .if1 .left) (c .before .before .before .before .before .before .before .before .load .ensures) (c .before .before .before .before .before .status .ensures m) refl (c .before .before .leave-rest .ensures)
 
 pub thrandue-status-spec : {M : Type 1} → statement M
 thrandue-status-spec =
@@ -40,7 +40,7 @@ thrandue-status-spec =
     returns
     load-requires
     status-requires
-    leave-bytes-requires
+    leave-rest-requires
     same-length
     same-length-2
     returns-2)

@@ -12,35 +12,11 @@ slice-aggregate-copy c = search needs
 copy-requires : tie.Need-copy-requires
 copy-requires c κs = search needs
 
-shared-slice-read-long : tie.Need-shared-slice-read-long
-shared-slice-read-long c = search needs
+number-at-requires : tie.Need-number-at-requires
+number-at-requires c κs = search needs
 
-shared-slice-read-long-2 : tie.Need-shared-slice-read-long-2
-shared-slice-read-long-2 c = search needs
-
-shared-slice-read-long-3 : tie.Need-shared-slice-read-long-3
-shared-slice-read-long-3 c = search needs
-
-shared-slice-read-long-4 : tie.Need-shared-slice-read-long-4
-shared-slice-read-long-4 c = search needs
-
-long-requires : tie.Need-long-requires
-long-requires c κs = search needs
-
-shared-slice-read-long-5 : tie.Need-shared-slice-read-long-5
-shared-slice-read-long-5 c = search needs
-
-shared-slice-read-long-6 : tie.Need-shared-slice-read-long-6
-shared-slice-read-long-6 c = search needs
-
-shared-slice-read-long-7 : tie.Need-shared-slice-read-long-7
-shared-slice-read-long-7 c = search needs
-
-shared-slice-read-long-8 : tie.Need-shared-slice-read-long-8
-shared-slice-read-long-8 c = search needs
-
-long-requires-2 : tie.Need-long-requires-2
-long-requires-2 c κs = search needs
+number-at-requires-2 : tie.Need-number-at-requires-2
+number-at-requires-2 c κs = search needs
 
 shared-slice-read-marks : tie.Need-shared-slice-read-marks
 shared-slice-read-marks c = search needs
@@ -49,7 +25,7 @@ phase-from-requires : tie.Need-phase-from-requires
 phase-from-requires c κs = search needs
 
 returns : tie.Need-returns
-returns c = rw (c .before .before .before .before .before .before .before .before .before .before .before .before .before .copy .ensures ∙ first-sixteen (c .before .before .before .before .before .before .before .before .before .before .before .before .before .before .before .before .args .image .now) (c .before .before .before .before .before .before .before .before .before .before .before .before .before .before .before .before .pre) (replicate 16 0) refl, c .phase-from .ensures, c .before .before .before .before .before .before .before .long .ensures, c .before .before .long2 .ensures)
+returns c = rw (c .before .before .before .before .before .copy .ensures ∙ first-sixteen (c .before .before .before .before .before .before .before .before .args .image .now) (c .before .before .before .before .before .before .before .before .pre) (replicate 16 0) refl, c .phase-from .ensures, c .before .before .before .number-at .ensures, c .before .before .number-at2 .ensures)
 
 pub load-spec : {M : Type 1} → statement M
 load-spec =
@@ -57,16 +33,8 @@ load-spec =
     (tie.spec
     slice-aggregate-copy
     copy-requires
-    shared-slice-read-long
-    shared-slice-read-long-2
-    shared-slice-read-long-3
-    shared-slice-read-long-4
-    long-requires
-    shared-slice-read-long-5
-    shared-slice-read-long-6
-    shared-slice-read-long-7
-    shared-slice-read-long-8
-    long-requires-2
+    number-at-requires
+    number-at-requires-2
     shared-slice-read-marks
     phase-from-requires
     returns)

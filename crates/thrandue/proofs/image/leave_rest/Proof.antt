@@ -1,7 +1,7 @@
--- `thrandue::image::leave_bytes` meets its contract.
+-- `thrandue::image::leave_rest` meets its contract.
 use borrow.Author.Needs.{needs}
-use Rattle.thrandue.proofs.image.leave_bytes.Statement.{statement}
-use Rattle.thrandue.proofs.image.leave_bytes.Tie as tie
+use Rattle.thrandue.proofs.image.leave_rest.Statement.{statement}
+use Rattle.thrandue.proofs.image.leave_rest.Tie as tie
 
 returned-requires : tie.Need-returned-requires
 returned-requires c κs = search needs
@@ -21,8 +21,8 @@ same-length c = search needs
 returns-2 : tie.Need-returns-2
 returns-2 c = (c .returned2 .ensures, rw (c .before .before .before .before .before .before .if1 .left) (c .before .before .before .put-rest .ensures))
 
-pub leave-bytes-spec : {M : Type 1} → statement M
-leave-bytes-spec =
+pub leave-rest-spec : {M : Type 1} → statement M
+leave-rest-spec =
     tie.close
     (tie.spec
     returned-requires
