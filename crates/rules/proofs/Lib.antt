@@ -1,4 +1,5 @@
 pub mod Checks
+pub mod Rows
 pub mod Promises
 pub mod Replies
 pub mod Unique

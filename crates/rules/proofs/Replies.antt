@@ -12,23 +12,9 @@ use Rattle.rules.specs.declared.Request.{Request}
 use Rattle.rules.specs.declared.Request.the-variants.{SetConfiguration, GetConfiguration, ClearFeature, GetStatus, GetMaxLun, MassStorageReset, LoadConfigData, ReadConfigData, SoftReset, BogusRead, Unknown}
 use Rattle.rules.specs.declared.Setup.{Setup}
 use Rattle.rules.specs.Held.{World, sizeOf}
-use Rattle.rules.specs.Requests.{Row, table, fits, lookup, setupOf, requestOf, isA, inMemory, address, returned, storeOf, replyTo}
+use Rattle.rules.specs.Requests.{Row, table, fits, lookup, setupOf, requestOf, isA, inMemory, address, returned, storeOf, replyTo, replies}
 use Rattle.rules.specs.Answers.{requestAnswer}
 use Rattle.rules.proofs.Checks.{request-passed, accepted-write}
-
--- how many bytes each request replies
-abbrev replies : Request → Setup → ℕ
-replies SetConfiguration s = 0
-replies GetConfiguration s = 1
-replies ClearFeature s = 0
-replies GetStatus s = 2
-replies GetMaxLun s = 1
-replies MassStorageReset s = 0
-replies LoadConfigData s = 0
-replies ReadConfigData s = s .length
-replies SoftReset s = 0
-replies BogusRead s = s .length
-replies Unknown s = 0
 
 -- every row that a setup fits names a request that replies what wLength says
 abbrev Rows : Setup → List Row → Type 0
@@ -89,13 +75,13 @@ unfolding requestOf
 request-replies s u = lookup-replies table s (rows s) u
 
 -- an address that is right lies in its place
-inside : (writes : Bool) (w : World) (place start n : ℕ) → length (w .bridge .bytes) ≡ 16 → address writes (sizeOf (w .memory)) place start n ≡ true
+inside : (writes : Bool) (w : World) (place start n : ℕ) → length (w .bytes) ≡ 16 → address writes (sizeOf (w .memory)) place start n ≡ true
     → start + n ≤ length (storeOf place w)
 unfolding address
 inside writes w place start n sixteen a = go (inMemory place) a
   where
     go : (y : Bool) → cond y (ltb start (sizeOf (w .memory)) && leb (start + n) (sizeOf (w .memory))) (leb (cond writes 2 0) start && leb start 15 && leb (start + n) 16) ≡ true
-        → start + n ≤ length (cond y (w .memory) (w .bridge .bytes))
+        → start + n ≤ length (cond y (w .memory) (w .bytes))
     go true a =
         let l : start + n ≤ sizeOf (w .memory) = leb-true _ _ (and-eq-true-iff (ltb start (sizeOf (w .memory))) _ .0 a .1) in
         omega arith
@@ -105,7 +91,7 @@ inside writes w place start n sixteen a = go (inMemory place) a
 
 -- ---- what an accepted request has
 
-module _ (w : World) (setup : List ℕ) (host room : ℕ) (sixteen : length (w .bridge .bytes) ≡ 16)
+module _ (w : World) (setup : List ℕ) (host room : ℕ) (sixteen : length (w .bytes) ≡ 16)
     (accepted : requestAnswer (w .bridge .configured) (sizeOf (w .memory)) setup host room ≡ 0) where
   abbrev s : Setup
   s = setupOf setup
@@ -136,10 +122,13 @@ module _ (w : World) (setup : List ℕ) (host room : ℕ) (sixteen : length (w .
   reply-length BogusRead h = length-replicate (s .length) 0
   reply-length Unknown h = refl
 
+  pub reply-count : length (replyTo (requestOf s) s w) ≡ replies (requestOf s) s
+  reply-count = reply-length (requestOf s) read-inside
+
   pub reply-fits : length (replyTo (requestOf s) s w) ≤ room
   reply-fits =
       let p = request-passed (w .bridge .configured) (sizeOf (w .memory)) setup host room accepted in
-      let n : length (replyTo (requestOf s) s w) ≡ replies (requestOf s) s = reply-length (requestOf s) read-inside in
+      let n : length (replyTo (requestOf s) s w) ≡ replies (requestOf s) s = reply-count in
       let k : returned s ≡ replies (requestOf s) s = request-replies s (p .1 .1 .0) in
       let l : returned s ≤ room = ltb-false room (returned s) (p .1 .1 .1 .1 .1 .1 .1 .1 .1 .0) in
       omega arith

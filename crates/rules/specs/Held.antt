@@ -1,21 +1,23 @@
 -- What the bridge holds.
 use Prim.Native.Nat.{ℕ, min}
-use mathlib.Core.Bool.{Bool, true, false, cond}
+use mathlib.Core.Bool.{Bool, true, false, cond, _||_}
 use mathlib.Core.List.{List, [], _∷_}
 use lib.ListN.{length}
 use Rattle.rules.specs.declared.Bridge.{Bridge}
 use Rattle.rules.specs.declared.Direction.{Direction}
-use Rattle.rules.specs.declared.Direction.the-variants.{None, In, Out}
+use Rattle.rules.specs.declared.Direction.the-variants.{Out, In}
+use Rattle.rules.specs.declared.Halts.{Halts}
 use Rattle.rules.specs.declared.Phase.{Phase}
 use Rattle.rules.specs.declared.Phase.the-variants.{Awaiting, Busy, StatusWaiting, Stopped}
 
--- The bridge with its memory part.
+-- The bridge with the sixteen configuration bytes and the memory part beside it.
 pub record World : Type 0 where
   pub bridge : Bridge
+  pub bytes : List ℕ
   pub memory : List ℕ
 
-abbrev pub world : Bridge → List ℕ → World
-world b m = record { bridge = b; memory = m }
+abbrev pub world : Bridge → List ℕ → List ℕ → World
+world b bytes memory = record { bridge = b; bytes = bytes; memory = memory }
 
 -- "USB configuration: 0 or 2."
 abbrev pub configuration : Bridge → ℕ
@@ -28,16 +30,6 @@ sizeFor n = min n 2048
 abbrev pub sizeOf : List ℕ → ℕ
 sizeOf memory = sizeFor (length memory)
 
--- "At power-on all are 0, but 0x04 is 0x24, the command signature." "At power-on: configuration 0, awaiting, no halts."
-abbrev pub powerOn : Bridge
-powerOn =
-    record {
-      configured = false;
-      bytes = 0 ∷ 0 ∷ 0 ∷ 0 ∷ 0x24 ∷ 0 ∷ 0 ∷ 0 ∷ 0 ∷ 0 ∷ 0 ∷ 0 ∷ 0 ∷ 0 ∷ 0 ∷ 0 ∷ [];
-      phase = Awaiting;
-      halts = record { outward = false; inward = false };
-    }
-
 -- "A halt mark for bulk out (0x01) and one for bulk in (0x82)."
 abbrev pub bulkOut : ℕ
 bulkOut = 0x01
@@ -45,52 +37,63 @@ bulkOut = 0x01
 abbrev pub bulkIn : ℕ
 bulkIn = 0x82
 
+abbrev pub marks : Bool → Bool → Halts
+marks out back = record { outward = out; inward = back }
+
+-- "At power-on: configuration 0, awaiting, no halts."
+abbrev pub powerOn : Bridge
+powerOn = record { configured = false; phase = Awaiting; halts = marks false false }
+
+-- "At power-on all are 0, but 0x04 is 0x24, the command signature."
+abbrev pub powerOnBytes : List ℕ
+powerOnBytes = 0 ∷ 0 ∷ 0 ∷ 0 ∷ 0x24 ∷ 0 ∷ 0 ∷ 0 ∷ 0 ∷ 0 ∷ 0 ∷ 0 ∷ 0 ∷ 0 ∷ 0 ∷ 0 ∷ []
+
+abbrev pub powered : List ℕ → World
+powered memory = world powerOn powerOnBytes memory
+
 -- ---- the bridge, changed in one respect
 
 abbrev pub configuring : Bool → Bridge → Bridge
-configuring c b = record { configured = c; bytes = b .bytes; phase = b .phase; halts = b .halts }
-
-abbrev pub holding : List ℕ → Bridge → Bridge
-holding s b = record { configured = b .configured; bytes = s; phase = b .phase; halts = b .halts }
+configuring c b = record { configured = c; phase = b .phase; halts = b .halts }
 
 abbrev pub inPhase : Phase → Bridge → Bridge
-inPhase p b = record { configured = b .configured; bytes = b .bytes; phase = p; halts = b .halts }
+inPhase p b = record { configured = b .configured; phase = p; halts = b .halts }
 
 abbrev pub halted : Bool → Bool → Bridge → Bridge
-halted o i b = record { configured = b .configured; bytes = b .bytes; phase = b .phase; halts = record { outward = o; inward = i } }
+halted out back b = record { configured = b .configured; phase = b .phase; halts = marks out back }
 
--- halts the pipe of a direction
-abbrev pub halting : Direction → Bridge → Bridge
-halting None b = b
-halting In b = halted (b .halts .outward) true b
-halting Out b = halted true (b .halts .inward) b
+-- the pipe of a direction is halted, if told so
+abbrev pub halting : Bool → Direction → Bridge → Bridge
+halting t Out b = halted (t || b .halts .outward) (b .halts .inward) b
+halting t In b = halted (b .halts .outward) (t || b .halts .inward) b
 
--- Set Configuration "sets it; awaiting, no halts". "A bus reset restores those three; configuration bytes and memory stay."
-abbrev pub fresh : Bool → Bridge → Bridge
-fresh c b = configuring c (inPhase Awaiting (halted false false b))
+-- the halt of a direction's pipe is cleared
+abbrev pub clearing : Direction → Bridge → Bridge
+clearing Out b = halted false (b .halts .inward) b
+clearing In b = halted (b .halts .outward) false b
 
 -- ---- which phase
 
 abbrev pub isAwaiting : Phase → Bool
 isAwaiting Awaiting = true
-isAwaiting (Busy tag l direction) = false
+isAwaiting (Busy direction tag l) = false
 isAwaiting (StatusWaiting tag residue status) = false
 isAwaiting (Stopped reset) = false
 
 abbrev pub isBusy : Phase → Bool
 isBusy Awaiting = false
-isBusy (Busy tag l direction) = true
+isBusy (Busy direction tag l) = true
 isBusy (StatusWaiting tag residue status) = false
 isBusy (Stopped reset) = false
 
 abbrev pub isStatusWaiting : Phase → Bool
 isStatusWaiting Awaiting = false
-isStatusWaiting (Busy tag l direction) = false
+isStatusWaiting (Busy direction tag l) = false
 isStatusWaiting (StatusWaiting tag residue status) = true
 isStatusWaiting (Stopped reset) = false
 
 abbrev pub isStopped : Phase → Bool
 isStopped Awaiting = false
-isStopped (Busy tag l direction) = false
+isStopped (Busy direction tag l) = false
 isStopped (StatusWaiting tag residue status) = false
 isStopped (Stopped reset) = true

@@ -1,5 +1,6 @@
 pub mod Words
 pub mod Held
+pub mod Changes
 pub mod Requests
 pub mod Answers
 pub mod Packets

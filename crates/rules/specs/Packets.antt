@@ -3,17 +3,14 @@ use Prim.Native.Nat.{ℕ, _+_}
 use mathlib.Core.Bool.{Bool, true, false, cond, not, _&&_, _||_}
 use mathlib.Core.List.{List, [], _∷_, _++_}
 use lib.ListN.{length, drop}
-use lib.Dec.{eqb, leb}
-use Rattle.rules.specs.declared.Bridge.{Bridge}
+use lib.Dec.{eqb, leb, ltb}
+use Rattle.rules.specs.declared.Change.{Change}
+use Rattle.rules.specs.declared.Change.the-variants.{Begins, Finishes}
 use Rattle.rules.specs.declared.CommandPacket.{CommandPacket}
 use Rattle.rules.specs.declared.Direction.{Direction}
-use Rattle.rules.specs.declared.Direction.the-variants.{None, In, Out}
+use Rattle.rules.specs.declared.Direction.the-variants.{Out, In}
 use Rattle.rules.specs.declared.Layout.{Layout}
-use Rattle.rules.specs.declared.Phase.the-variants.{Busy, StatusWaiting}
-use Rattle.rules.specs.declared.Status.{Status}
-use Rattle.rules.specs.declared.Status.the-variants.{Passed, Failed, PhaseError}
 use Rattle.rules.specs.Words.{byte, long, bytes4, bit}
-use Rattle.rules.specs.Held.{inPhase, halting}
 
 -- "A command packet is 31 bytes: 55 53 42 43, .." "A status packet is 13 bytes: 55 53 42 53, .."
 abbrev pub commandLayout : Layout
@@ -40,12 +37,11 @@ meaningful c = (eqb (c .flags) 0x00 || eqb (c .flags) 0x80) && eqb (c .lun) 0 &&
 
 -- "Flags 0x80 means in; direction is ignored if L = 0."
 abbrev pub directionOf : CommandPacket → Direction
-directionOf c = cond (eqb (c .length) 0) None (cond (eqb (c .flags) 0x80) In Out)
+directionOf c = cond (ltb 0 (c .length) && eqb (c .flags) 0x80) In Out
 
 abbrev pub inward : Direction → Bool
-inward None = false
-inward In = true
 inward Out = false
+inward In = true
 
 -- "if action bit 0 is set, action bits 3 and 4 are clear, L = 8 and direction in"
 abbrev pub readable : ℕ → ℕ → Direction → Bool
@@ -60,21 +56,19 @@ recognised signature block size l d =
     && eqb (byte 13 block) 0 && eqb (byte 14 block) 0 && eqb (byte 15 block) 0
     && (not (bit 0 (byte 2 block)) || readable (byte 2 block) l d)
 
-abbrev pub recognises : Bridge → List ℕ → Bool
-recognises b p =
-    recognised (byte 0x04 (b .bytes)) (blockOf p) (commandOf p .«block_length») (commandOf p .length) (directionOf (commandOf p))
+-- "configuration byte 0x04", the command signature
+abbrev pub signatureOf : List ℕ → ℕ
+signatureOf bytes = byte 0x04 bytes
+
+abbrev pub recognises : ℕ → List ℕ → Bool
+recognises signature p = recognised signature (blockOf p) (commandOf p .«block_length») (commandOf p .length) (directionOf (commandOf p))
 
 -- "The phase becomes status waiting with status 1 and residue L, and the pipe of the direction is halted if L > 0."
 -- "A recognised block with room enough makes the phase busy."
-abbrev pub commandTaken : Bool → CommandPacket → Bridge → Bridge
-commandTaken true c b = inPhase (Busy (c .tag) (c .length) (directionOf c)) b
-commandTaken false c b = halting (directionOf c) (inPhase (StatusWaiting (c .tag) (c .length) Failed) b)
+abbrev pub commandTaken : Bool → CommandPacket → Change
+commandTaken true c = Begins (directionOf c) (c .tag) (c .length)
+commandTaken false c = Finishes (directionOf c) (ltb 0 (c .length)) 1 (c .tag) (c .length)
 
 -- "55 53 42 53, tag, residue (4), status"
-abbrev pub statusNumber : Status → ℕ
-statusNumber Passed = 0
-statusNumber Failed = 1
-statusNumber PhaseError = 2
-
-abbrev pub statusPacket : ℕ → ℕ → Status → List ℕ
-statusPacket tag residue status = bytes4 (statusLayout .signature) ++ bytes4 tag ++ bytes4 residue ++ statusNumber status ∷ []
+abbrev pub statusPacket : ℕ → ℕ → ℕ → List ℕ
+statusPacket tag residue status = bytes4 (statusLayout .signature) ++ bytes4 tag ++ bytes4 residue ++ status ∷ []

@@ -1,16 +1,17 @@
 -- Control requests: the fields of a setup, the table, places and addresses, and what each request does.
 use Prim.Native.Nat.{ℕ, _+_, _-_, _/_, _%_}
-use mathlib.Core.Bool.{Bool, true, cond, _&&_, _||_}
+use mathlib.Core.Bool.{Bool, true, cond, not, _&&_, _||_}
 use mathlib.Core.List.{List, [], _∷_}
 use lib.ListN.{take, drop, replicate}
-use lib.Seq.{paste}
 use lib.Dec.{eqb, leb, ltb}
 use Rattle.rules.specs.declared.Bridge.{Bridge}
+use Rattle.rules.specs.declared.Change.{Change}
+use Rattle.rules.specs.declared.Change.the-variants.{Nothing, Sets}
 use Rattle.rules.specs.declared.Request.{Request}
 use Rattle.rules.specs.declared.Request.the-variants.{SetConfiguration, GetConfiguration, ClearFeature, GetStatus, GetMaxLun, MassStorageReset, LoadConfigData, ReadConfigData, SoftReset, BogusRead, Unknown}
 use Rattle.rules.specs.declared.Setup.{Setup}
-use Rattle.rules.specs.Words.{byte, word, one}
-use Rattle.rules.specs.Held.{World, configuration, bulkOut, bulkIn, holding, inPhase, fresh}
+use Rattle.rules.specs.Words.{byte, word, one, over}
+use Rattle.rules.specs.Held.{World, configuration, bulkOut, bulkIn}
 use Rattle.rules.specs.Stopping.{clearFeature, massStorageReset, softReset}
 
 -- "Fields are the whole 16-bit numbers, low byte first."
@@ -130,7 +131,7 @@ abbrev pub haltOf : ℕ → Bridge → Bool
 haltOf pipe b = cond (eqb pipe bulkOut) (b .halts .outward) (b .halts .inward)
 
 abbrev pub storeOf : ℕ → World → List ℕ
-storeOf place w = cond (inMemory place) (w .memory) (w .bridge .bytes)
+storeOf place w = cond (inMemory place) (w .memory) (w .bytes)
 
 abbrev pub replyTo : Request → Setup → World → List ℕ
 replyTo SetConfiguration s w = []
@@ -145,22 +146,36 @@ replyTo SoftReset s w = []
 replyTo BogusRead s w = replicate (s .length) 0
 replyTo Unknown s w = []
 
--- the addressed bytes become the host's
-abbrev pub written : Setup → List ℕ → List ℕ → List ℕ
-written s host store = paste store (s .index) host (s .length)
+-- .. and how many bytes that is
+abbrev pub replies : Request → Setup → ℕ
+replies SetConfiguration s = 0
+replies GetConfiguration s = 1
+replies ClearFeature s = 0
+replies GetStatus s = 2
+replies GetMaxLun s = 1
+replies MassStorageReset s = 0
+replies LoadConfigData s = 0
+replies ReadConfigData s = s .length
+replies SoftReset s = 0
+replies BogusRead s = s .length
+replies Unknown s = 0
 
-abbrev pub bridgeAfter : Request → Setup → List ℕ → Bridge → Bridge
-bridgeAfter SetConfiguration s host b = fresh (eqb (s .value) 2) b
-bridgeAfter GetConfiguration s host b = b
-bridgeAfter ClearFeature s host b = clearFeature (s .index) b
-bridgeAfter GetStatus s host b = b
-bridgeAfter GetMaxLun s host b = b
-bridgeAfter MassStorageReset s host b = inPhase (massStorageReset (b .phase)) b
-bridgeAfter LoadConfigData s host b = holding (cond (inMemory (s .value)) (b .bytes) (written s host (b .bytes))) b
-bridgeAfter ReadConfigData s host b = b
-bridgeAfter SoftReset s host b = inPhase (softReset (b .phase)) b
-bridgeAfter BogusRead s host b = b
-bridgeAfter Unknown s host b = b
+abbrev pub changeBy : Request → Setup → Bridge → Change
+changeBy SetConfiguration s b = Sets (eqb (s .value) 2)
+changeBy GetConfiguration s b = Nothing
+changeBy ClearFeature s b = clearFeature (s .index) b
+changeBy GetStatus s b = Nothing
+changeBy GetMaxLun s b = Nothing
+changeBy MassStorageReset s b = massStorageReset (b .phase)
+changeBy LoadConfigData s b = Nothing
+changeBy ReadConfigData s b = Nothing
+changeBy SoftReset s b = softReset (b .phase)
+changeBy BogusRead s b = Nothing
+changeBy Unknown s b = Nothing
+
+-- LOAD_CONFIG_DATA "writes n bytes", the host's, from start on: of the memory or of the configuration bytes
+abbrev pub bytesAfter : Request → Setup → List ℕ → List ℕ → List ℕ
+bytesAfter r s host bytes = cond (isA LoadConfigData r && not (inMemory (s .value))) (over bytes (s .index) host) bytes
 
 abbrev pub memoryAfter : Request → Setup → List ℕ → List ℕ → List ℕ
-memoryAfter r s host m = cond (isA LoadConfigData r && inMemory (s .value)) (written s host m) m
+memoryAfter r s host m = cond (isA LoadConfigData r && inMemory (s .value)) (over m (s .index) host) m

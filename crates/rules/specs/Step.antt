@@ -1,18 +1,19 @@
--- The five kinds of event, what each answers, hands out and leaves, and runs of events.
+-- The five kinds of event, what each answers, hands out, changes and leaves, and runs of events.
 use Prim.Native.Nat.{ℕ}
 use mathlib.Core.List.{List, [], _∷_}
 use mathlib.Core.Bool.{Bool, false, cond, _||_}
 use lib.ListN.{length}
 use lib.Dec.{eqb}
-use Rattle.rules.specs.declared.Bridge.{Bridge}
+use Rattle.rules.specs.declared.Change.{Change}
+use Rattle.rules.specs.declared.Change.the-variants.{Nothing, Sets, Awaits, Stops}
 use Rattle.rules.specs.declared.Phase.{Phase}
 use Rattle.rules.specs.declared.Phase.the-variants.{Awaiting, Busy, StatusWaiting, Stopped}
-use Rattle.rules.specs.Held.{World, world, sizeOf, inPhase, fresh}
-use Rattle.rules.specs.Requests.{setupOf, requestOf, replyTo, bridgeAfter, memoryAfter}
-use Rattle.rules.specs.Packets.{commandOf, blockOf, directionOf, recognises, commandTaken, statusPacket}
+use Rattle.rules.specs.Held.{World, world, sizeOf}
+use Rattle.rules.specs.Changes.{made}
+use Rattle.rules.specs.Requests.{setupOf, requestOf, replyTo, changeBy, bytesAfter, memoryAfter}
+use Rattle.rules.specs.Packets.{commandOf, blockOf, directionOf, signatureOf, recognises, commandTaken, statusPacket}
 use Rattle.rules.specs.Operations.{codes, operationsOf}
 use Rattle.rules.specs.Reports.{reportTaken}
-use Rattle.rules.specs.Stopping.{stop}
 use Rattle.rules.specs.Answers.{requestAnswer, packetAnswer, reportAnswer, statusAnswer}
 
 -- "The bridge is told of five kinds of event": a lent room enters by its length.
@@ -30,13 +31,14 @@ pub record Outcome : Type 0 where
   pub next : World
 
 -- "An unrecognised block makes no operations."
-abbrev pub operationsFor : Bridge → List ℕ → List ℕ
-operationsFor b p = cond (recognises b p) (codes (operationsOf (blockOf p) (commandOf p .length) (directionOf (commandOf p)))) []
+abbrev pub operationsFor : ℕ → List ℕ → List ℕ
+operationsFor signature p =
+    cond (recognises signature p) (codes (operationsOf (blockOf p) (commandOf p .length) (directionOf (commandOf p)))) []
 
 -- "A status request hands it out and the bridge then awaits."
 abbrev pub statusReply : Phase → List ℕ
 statusReply Awaiting = []
-statusReply (Busy tag l direction) = []
+statusReply (Busy direction tag l) = []
 statusReply (StatusWaiting tag residue status) = statusPacket tag residue status
 statusReply (Stopped reset) = []
 
@@ -45,7 +47,7 @@ statusReply (Stopped reset) = []
 abbrev pub answer : World → Event → ℕ
 answer w BusReset = 0
 answer w (Control setup host room) = requestAnswer (w .bridge .configured) (sizeOf (w .memory)) setup (length host) room
-answer w (Packet p room) = packetAnswer (w .bridge) p (length (operationsFor (w .bridge) p)) room
+answer w (Packet p room) = packetAnswer (w .bridge) p (length (operationsFor (signatureOf (w .bytes)) p)) room
 answer w (Report direction failed amount) = reportAnswer (w .bridge) direction failed amount
 answer w (StatusRequest room) = statusAnswer (w .bridge) room
 
@@ -56,19 +58,26 @@ reply w (Packet p room) = []
 reply w (Report direction failed amount) = []
 reply w (StatusRequest room) = statusReply (w .bridge .phase)
 
-abbrev pub operations : Bridge → Event → List ℕ
-operations b BusReset = []
-operations b (Control setup host room) = []
-operations b (Packet p room) = operationsFor b p
-operations b (Report direction failed amount) = []
-operations b (StatusRequest room) = []
+abbrev pub operations : World → Event → List ℕ
+operations w BusReset = []
+operations w (Control setup host room) = []
+operations w (Packet p room) = operationsFor (signatureOf (w .bytes)) p
+operations w (Report direction failed amount) = []
+operations w (StatusRequest room) = []
 
-abbrev pub bridgeDone : Bridge → Event → Bridge
-bridgeDone b BusReset = fresh false b
-bridgeDone b (Control setup host room) = bridgeAfter (requestOf (setupOf setup)) (setupOf setup) host b
-bridgeDone b (Packet p room) = commandTaken (recognises b p) (commandOf p) b
-bridgeDone b (Report direction failed amount) = reportTaken direction failed amount (b .phase) b
-bridgeDone b (StatusRequest room) = inPhase Awaiting b
+abbrev pub changeDone : World → Event → Change
+changeDone w BusReset = Sets false
+changeDone w (Control setup host room) = changeBy (requestOf (setupOf setup)) (setupOf setup) (w .bridge)
+changeDone w (Packet p room) = commandTaken (recognises (signatureOf (w .bytes)) p) (commandOf p)
+changeDone w (Report direction failed amount) = reportTaken direction failed amount (w .bridge .phase)
+changeDone w (StatusRequest room) = Awaits
+
+abbrev pub bytesDone : List ℕ → Event → List ℕ
+bytesDone bytes BusReset = bytes
+bytesDone bytes (Control setup host room) = bytesAfter (requestOf (setupOf setup)) (setupOf setup) host bytes
+bytesDone bytes (Packet p room) = bytes
+bytesDone bytes (Report direction failed amount) = bytes
+bytesDone bytes (StatusRequest room) = bytes
 
 abbrev pub memoryDone : List ℕ → Event → List ℕ
 memoryDone m BusReset = m
@@ -88,16 +97,22 @@ damaged n = eqb n 13 || eqb n 14
 abbrev pub given : ℕ → List ℕ → List ℕ
 given n out = cond (done n) out []
 
-abbrev pub bridgeLeft : ℕ → Bridge → Bridge → Bridge
-bridgeLeft n b next = cond (done n) next (cond (damaged n) (stop b) b)
+abbrev pub changing : ℕ → Change → Change
+changing n c = cond (done n) c (cond (damaged n) Stops Nothing)
+
+unfoldable pub change : World → Event → Change
+change w e = changing (answer w e) (changeDone w e)
 
 unfoldable pub step : World → Event → Outcome
 step w e =
     record {
       answer = answer w e;
       reply = given (answer w e) (reply w e);
-      operations = given (answer w e) (operations (w .bridge) e);
-      next = world (bridgeLeft (answer w e) (w .bridge) (bridgeDone (w .bridge) e)) (cond (done (answer w e)) (memoryDone (w .memory) e) (w .memory));
+      operations = given (answer w e) (operations w e);
+      next =
+          world (made (change w e) (w .bridge))
+          (cond (done (answer w e)) (bytesDone (w .bytes) e) (w .bytes))
+          (cond (done (answer w e)) (memoryDone (w .memory) e) (w .memory));
     }
 
 -- ---- runs. A machine is anything that answers events as a bridge does; `step` is the rules'.

@@ -1,50 +1,36 @@
--- Stopping and the boundary: what stops the bridge, and what each recovery request does to a stop.
+-- Stopping and the boundary: what each recovery request changes, of a stop and of a bridge that is not stopped.
 use Prim.Native.Nat.{ℕ}
-use mathlib.Core.Bool.{Bool, true, false, cond, not, _&&_, _||_}
+use mathlib.Core.Bool.{Bool, true, cond, not, _&&_}
 use lib.Dec.{eqb}
 use Rattle.rules.specs.declared.Bridge.{Bridge}
+use Rattle.rules.specs.declared.Change.{Change}
+use Rattle.rules.specs.declared.Change.the-variants.{Nothing, Awaits, Notes, Clears, Ends}
+use Rattle.rules.specs.declared.Direction.{Direction}
+use Rattle.rules.specs.declared.Direction.the-variants.{Out, In}
 use Rattle.rules.specs.declared.Phase.{Phase}
 use Rattle.rules.specs.declared.Phase.the-variants.{Awaiting, Busy, StatusWaiting, Stopped}
-use Rattle.rules.specs.Held.{bulkOut, bulkIn, inPhase, halted}
+use Rattle.rules.specs.Held.{bulkOut, isStopped}
 
--- "Answer 13 or 14 halts both pipes and stops the bridge."
-abbrev pub stop : Bridge → Bridge
-stop b = inPhase (Stopped false) (halted true true b)
-
--- "Before a Mass Storage Reset, Clear Feature answers 0 and clears nothing. After it, each clears its pipe."
+-- "Before a Mass Storage Reset, Clear Feature answers 0 and clears nothing."
 abbrev pub clears : Phase → Bool
 clears Awaiting = true
-clears (Busy tag l direction) = true
+clears (Busy direction tag l) = true
 clears (StatusWaiting tag residue status) = true
 clears (Stopped reset) = reset
 
--- "Until both are clear the bridge is stopped."
-abbrev pub untilClear : Phase → Bool → Phase
-untilClear Awaiting some = Awaiting
-untilClear (Busy tag l direction) some = Busy tag l direction
-untilClear (StatusWaiting tag residue status) some = StatusWaiting tag residue status
-untilClear (Stopped reset) some = cond some (Stopped reset) Awaiting
+-- "After it, each clears its pipe; until both are clear the bridge is stopped": with the other pipe clear, this one is the second
+abbrev pub clearsPipe : Phase → Direction → Bool → Change
+clearsPipe p direction other = cond (clears p) (cond (isStopped p && not other) Ends (Clears direction)) Nothing
 
--- Clear Feature "clears that halt": the mark of a pipe that stays
-abbrev pub stays : Bridge → ℕ → ℕ → Bool → Bool
-stays b pipe index mark = mark && not (clears (b .phase) && eqb index pipe)
-
-abbrev pub clearFeature : ℕ → Bridge → Bridge
+-- Clear Feature "clears that halt (see Stopping)"
+abbrev pub clearFeature : ℕ → Bridge → Change
 clearFeature index b =
-    let out = stays b bulkOut index (b .halts .outward) in
-    let back = stays b bulkIn index (b .halts .inward) in
-    inPhase (untilClear (b .phase) (out || back)) (halted out back b)
+    cond (eqb index bulkOut) (clearsPipe (b .phase) Out (b .halts .inward)) (clearsPipe (b .phase) In (b .halts .outward))
 
 -- Mass Storage Reset: "busy or status waiting becomes awaiting; halts stay". A stop notes it; "a second reset changes nothing".
-abbrev pub massStorageReset : Phase → Phase
-massStorageReset Awaiting = Awaiting
-massStorageReset (Busy tag l direction) = Awaiting
-massStorageReset (StatusWaiting tag residue status) = Awaiting
-massStorageReset (Stopped reset) = Stopped true
+abbrev pub massStorageReset : Phase → Change
+massStorageReset p = cond (isStopped p) Notes Awaits
 
 -- SOFT_RESET: "as Mass Storage Reset, but no effect on a stop"
-abbrev pub softReset : Phase → Phase
-softReset Awaiting = Awaiting
-softReset (Busy tag l direction) = Awaiting
-softReset (StatusWaiting tag residue status) = Awaiting
-softReset (Stopped reset) = Stopped reset
+abbrev pub softReset : Phase → Change
+softReset p = cond (isStopped p) Nothing Awaits

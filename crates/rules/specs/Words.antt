@@ -1,5 +1,5 @@
--- What every rule is written with: numbers from bytes, bits, and an ordered list of checks.
-use Prim.Native.Nat.{ℕ, _+_, _*_, _/_, _%_, _^_}
+-- What every rule is written with: numbers from bytes, bits, an ordered list of checks, and rows that stand in a lent room.
+use Prim.Native.Nat.{ℕ, zero, suc, _+_, _*_, _/_, _%_, _^_}
 use mathlib.Core.Bool.{Bool, true, false, cond}
 use mathlib.Core.List.{List, [], _∷_, _++_}
 use lib.ListN.{length, getD, drop}
@@ -49,3 +49,11 @@ first (c ∷ cs) = cond (c .applies) (c .number) (first cs)
 -- "On 0, reply or operations stand at the front of the lent room and the rest is unchanged."
 abbrev pub laid : List ℕ → List ℕ → List ℕ
 laid out room = out ++ drop (length out) room
+
+-- a row with xs over it from `at` on, as far as it goes
+unfoldable pub over : List ℕ → ℕ → List ℕ → List ℕ
+over row zero [] = row
+over [] zero (x ∷ xs) = []
+over (r ∷ row) zero (x ∷ xs) = x ∷ over row zero xs
+over [] (suc at) xs = []
+over (r ∷ row) (suc at) xs = r ∷ over row at xs

@@ -1,17 +1,17 @@
-// The types of document 01: what the bridge holds, the requests of its table, and the two kinds of packet with their constants.
+// The types of document 01: what the bridge holds, what an event changes of it, the requests of its table, and the two kinds of packet with their
+// constants.
 ghost use mathlib.Core.Path.{_≡_};
-ghost use Rattle.rules.specs.Held.{powerOn};
-ghost use Rattle.rules.specs.Packets.{commandLayout, statusLayout, statusNumber};
+ghost use Rattle.rules.specs.Held.{powerOn, powerOnBytes};
+ghost use Rattle.rules.specs.Packets.{commandLayout, inward, statusLayout};
 ghost use Rattle.rules.specs.Reports.{directionNumber};
 
 pub mod answers;
 pub mod fields;
 
-// Where data goes, seen from the host. None when L = 0.
+// Where data goes, seen from the host. With L = 0 none goes, and Out stands for that.
 pub enum Direction {
-    None,
-    In,
     Out,
+    In,
 }
 
 impl Direction {
@@ -19,28 +19,17 @@ impl Direction {
         ensures { λ r. ⌜ r ≡ directionNumber self ⌝ }
     {
         match self {
-            Direction::None => 0,
-            Direction::In => 1,
             Direction::Out => 2,
+            Direction::In => 1,
         }
     }
-}
 
-// The last byte of a status packet.
-pub enum Status {
-    Passed,
-    Failed,
-    PhaseError,
-}
-
-impl Status {
-    pub fn number(self) -> u8
-        ensures { λ r. ⌜ r ≡ statusNumber self ⌝ }
+    pub fn is_in(self) -> bool
+        ensures { λ r. ⌜ r ≡ inward self ⌝ }
     {
         match self {
-            Status::Passed => 0,
-            Status::Failed => 1,
-            Status::PhaseError => 2,
+            Direction::Out => false,
+            Direction::In => true,
         }
     }
 }
@@ -48,14 +37,14 @@ impl Status {
 pub enum Phase {
     Awaiting,
     Busy {
+        direction: Direction,
         tag: u32,
         length: u32,
-        direction: Direction,
     },
     StatusWaiting {
         tag: u32,
         residue: u32,
-        status: Status,
+        status: u8,
     },
     // With a note of whether a Mass Storage Reset has come.
     Stopped {
@@ -72,7 +61,6 @@ pub struct Halts {
 pub struct Bridge {
     // The USB configuration: 2 where it is true, else 0.
     pub configured: bool,
-    pub bytes: [u8; 16],
     pub phase: Phase,
     pub halts: Halts,
 }
@@ -83,7 +71,6 @@ impl Bridge {
     {
         Bridge {
             configured: false,
-            bytes: [0, 0, 0, 0, 0x24, 0, 0, 0, 0, 0, 0, 0, 0, 0, 0, 0],
             phase: Phase::Awaiting,
             halts: Halts {
                 outward: false,
@@ -91,6 +78,37 @@ impl Bridge {
             },
         }
     }
+}
+
+// The sixteen configuration bytes, which stand beside the bridge.
+pub fn power_on_bytes() -> [u8; 16]
+    ensures { λ r. ⌜ r ≡ powerOnBytes ⌝ }
+{
+    [0, 0, 0, 0, 0x24, 0, 0, 0, 0, 0, 0, 0, 0, 0, 0, 0]
+}
+
+// What an event changes of the bridge: nothing; the configuration is set, awaiting, no halts; a command is awaited; a command begins; it finishes, and
+// its direction's pipe is halted or not; the bridge stops; a stop notes a Mass Storage Reset; a pipe's halt is cleared; a stop ends.
+pub enum Change {
+    Nothing,
+    Sets(bool),
+    Awaits,
+    Begins {
+        direction: Direction,
+        tag: u32,
+        length: u32,
+    },
+    Finishes {
+        direction: Direction,
+        halts: bool,
+        status: u8,
+        tag: u32,
+        residue: u32,
+    },
+    Stops,
+    Notes,
+    Clears(Direction),
+    Ends,
 }
 
 // The fields of a setup: bmRequestType, bRequest, wValue, wIndex, wLength.
@@ -149,13 +167,18 @@ impl CommandPacket {
 pub struct StatusPacket {
     pub tag: u32,
     pub residue: u32,
-    pub status: Status,
+    pub status: u8,
 }
 
 impl StatusPacket {
     pub const LENGTH: usize = 13;
 
     pub const SIGNATURE: u32 = 0x53425355;
+
+    // The status of a command that failed, and of a phase error. One that passed has 0.
+    pub const FAILED: u8 = 1;
+
+    pub const PHASE_ERROR: u8 = 2;
 
     fn layout() -> Layout
         ensures { λ r. ⌜ r ≡ statusLayout ⌝ }

@@ -3,29 +3,33 @@ use mathlib.Core.Path.{_≡_, refl, sym, ap, _∙_}
 use mathlib.Core.Bool.{Bool, true, false, cond, not, _&&_, _||_, true≢false, false≢true, and-eq-true-iff, and-false, or-comm, or-assoc, or-false}
 use mathlib.Core.List.{List, [], _∷_, _++_}
 use Prim.Native.Nat.{ℕ}
+use lib.Dec.{eqb}
 use lib.ListN.{length}
 use borrow.Author.Tests.{eqb-true, not-true}
 use Rattle.rules.specs.declared.Bridge.{Bridge}
+use Rattle.rules.specs.declared.Change.the-variants.{Nothing, Stops}
+use Rattle.rules.specs.declared.Direction.the-variants.{Out, In}
 use Rattle.rules.specs.declared.Phase.the-variants.{Awaiting, Stopped}
 use Rattle.rules.specs.declared.Request.{Request}
 use Rattle.rules.specs.declared.Request.the-variants.{SetConfiguration, GetConfiguration, ClearFeature, GetStatus, GetMaxLun, MassStorageReset, LoadConfigData, ReadConfigData, SoftReset, BogusRead, Unknown}
 use Rattle.rules.specs.declared.Setup.{Setup}
-use Rattle.rules.specs.Held.{World, world, powerOn, sizeOf, bulkOut, bulkIn, configuring, holding, inPhase, halted}
-use Rattle.rules.specs.Requests.{setupOf, requestOf, isA, bridgeAfter, memoryAfter}
-use Rattle.rules.specs.Stopping.{stop}
+use Rattle.rules.specs.Held.{World, world, powered, sizeOf, bulkOut, bulkIn, configuring, inPhase, halted}
+use Rattle.rules.specs.Changes.{made}
+use Rattle.rules.specs.Stopping.{clearsPipe}
+use Rattle.rules.specs.Requests.{setupOf, requestOf, isA, changeBy, bytesAfter, memoryAfter}
 use Rattle.rules.specs.Answers.{requestAnswer, packetAnswer, reportAnswer, statusAnswer}
-use Rattle.rules.specs.Step.{Event, BusReset, Control, Packet, Report, StatusRequest, step, after, done, damaged}
-use Rattle.rules.specs.Demands.Boundary.{Ready, isBusReset, accepts, someHalt, clearsSecond, boundary, unbroken, keptWrites, statusIn, Silent, Stops, Silence, Resumption, resetAmong, NoEndWithoutReset, recovery, Recovery}
+use Rattle.rules.specs.Step.{Event, BusReset, Control, Packet, Report, StatusRequest, change, step, after, done, damaged}
+use Rattle.rules.specs.Demands.Boundary.{Ready, isBusReset, accepts, someHalt, clearsSecond, boundary, unbroken, keptWrites, statusIn, Silent, Stop, Silence, Resumption, resetAmong, NoEndWithoutReset, recovery, Recovery}
 use Rattle.rules.proofs.Checks.{request-undamaged}
 
 -- a configured bridge in a stop that has noted a reset or not, with some pipe halted
 data Stands (r : Bool) : World → Type 0 where
-  stands : (b : Bridge) (m : List ℕ) → (b .halts .outward || b .halts .inward) ≡ true
-      → Stands r (world (configuring true (inPhase (Stopped r) b)) m)
+  stands : (b : Bridge) (bytes memory : List ℕ) → (b .halts .outward || b .halts .inward) ≡ true
+      → Stands r (world (configuring true (inPhase (Stopped r) b)) bytes memory)
 
 -- the same bridge had it not stopped
 abbrev calmed : World → World
-calmed w = world (inPhase Awaiting (halted false false (w .bridge))) (w .memory)
+calmed w = world (inPhase Awaiting (halted false false (w .bridge))) (w .bytes) (w .memory)
 
 -- What an event does to a stop. Where it is not the boundary, the stop stands, and the calmed bridge has made at most the write. Where it is,
 -- the calmed bridge is left, changed at most by a new configuration; and the second pipe is cleared only after a reset.
@@ -38,18 +42,34 @@ data Course (r : Bool) (w next running : World) (second ends sets resets writes 
 -- what a request leaves, accepted or not
 abbrev requested : Request → Setup → List ℕ → Bool → World → World
 requested q s host t w =
-    world (cond t (bridgeAfter q s host (w .bridge)) (w .bridge)) (cond t (memoryAfter q s host (w .memory)) (w .memory))
+    world (made (cond t (changeBy q s (w .bridge)) Nothing) (w .bridge))
+    (cond t (bytesAfter q s host (w .bytes)) (w .bytes))
+    (cond t (memoryAfter q s host (w .memory)) (w .memory))
 
--- Clear Feature leaves no halt only after a reset
-noted : (r o i x y : Bool) → (o || i) ≡ true → (o && not (r && x)) ≡ false → (i && not (r && y)) ≡ false → r ≡ true
-noted true o i x y h a c = refl
-noted false true i x y h a c = absurd (true≢false a)
-noted false false true x y h a c = absurd (true≢false c)
-noted false false false x y h a c = absurd (false≢true h)
+module _ (b : Bridge) (bytes memory : List ℕ) where
+  -- the bridge in a stop with these halts
+  abbrev halting : Bool → Bool → Bool → World
+  halting r o i = world (configuring true (inPhase (Stopped r) (halted o i b))) bytes memory
 
-module _ (r : Bool) (b : Bridge) (m : List ℕ) (h : (b .halts .outward || b .halts .inward) ≡ true) (s : Setup) (host : List ℕ) where
+  -- Clear Feature of one pipe, the other halted or not: before a reset nothing; after it that pipe, and with the other clear the stop ends
+  abbrev ClearCourse : Bool → World → World → World → Type 0
+  ClearCourse r w next running =
+      let second = someHalt w && not (someHalt next) in
+      Course r w next running second (second || false || false) false false false
+
+  clear-course : (r x o i : Bool) (running : World) → (o || i) ≡ true
+      → (let change = cond x (clearsPipe (Stopped r) Out i) (clearsPipe (Stopped r) In o) in
+      ClearCourse r (halting r o i) (world (made change (halting r o i .bridge)) bytes memory) running)
+  clear-course false true o i running h = rw h (goes-on refl (stands (halted o i b) bytes memory h) refl)
+  clear-course false false o i running h = rw h (goes-on refl (stands (halted o i b) bytes memory h) refl)
+  clear-course true true o true running h = rw h (goes-on refl (stands (halted false true b) bytes memory refl) refl)
+  clear-course true true o false running h = rw h (ended refl refl (λ x. refl))
+  clear-course true false true i running h = goes-on refl (stands (halted true false b) bytes memory refl) refl
+  clear-course true false false i running h = rw h (ended refl refl (λ x. refl))
+
+module _ (r : Bool) (b : Bridge) (bytes memory : List ℕ) (h : (b .halts .outward || b .halts .inward) ≡ true) (s : Setup) (host : List ℕ) where
   abbrev standing : World
-  standing = world (configuring true (inPhase (Stopped r) b)) m
+  standing = world (configuring true (inPhase (Stopped r) b)) bytes memory
 
   -- the course of a request, by whether it is accepted
   abbrev RequestCourse : Request → Bool → Type 0
@@ -60,41 +80,34 @@ module _ (r : Bool) (b : Bridge) (m : List ℕ) (h : (b .halts .outward || b .ha
       Course r standing next (requested q s host t (calmed standing)) second (second || sets || false) (sets || false)
       (isA MassStorageReset q && t) (isA LoadConfigData q && t)
 
-  -- Clear Feature, by the halts that it leaves
-  clear-course : (out back : Bool) (running : World) → (out ≡ false → back ≡ false → r ≡ true)
-      → (let second = someHalt standing && not (out || back) in
-      Course r standing (world (configuring true (inPhase (cond (out || back) (Stopped r) Awaiting) (halted out back b))) m) running
-      second (second || false || false) false false false)
-  clear-course true back running n = rw h (goes-on refl (stands (halted true back b) m refl) refl)
-  clear-course false true running n = rw h (goes-on refl (stands (halted false true b) m refl) refl)
-  clear-course false false running n = rw h (ended refl refl (λ _. n refl refl))
-
   request-course : (q : Request) (t : Bool) → RequestCourse q t
-  request-course q false = simp and-false (goes-on refl (stands b m h) refl)
+  request-course q false = simp and-false (goes-on refl (stands b bytes memory h) refl)
   request-course SetConfiguration true = ended refl refl (λ x. absurd (false≢true x))
-  request-course GetConfiguration true = goes-on refl (stands b m h) refl
-  request-course ClearFeature true = clear-course _ _ _ (noted r (b .halts .outward) (b .halts .inward) _ _ h)
-  request-course GetStatus true = goes-on refl (stands b m h) refl
-  request-course GetMaxLun true = goes-on refl (stands b m h) refl
-  request-course MassStorageReset true = goes-on refl (stands b m h) refl
-  request-course LoadConfigData true = goes-on refl (stands (holding _ b) _ h) refl
-  request-course ReadConfigData true = goes-on refl (stands b m h) refl
-  request-course SoftReset true = goes-on refl (stands b m h) refl
-  request-course BogusRead true = goes-on refl (stands b m h) refl
-  request-course Unknown true = goes-on refl (stands b m h) refl
+  request-course GetConfiguration true = goes-on refl (stands b bytes memory h) refl
+  request-course ClearFeature true =
+      clear-course b bytes memory r (eqb (s .index) bulkOut) (b .halts .outward) (b .halts .inward) _ h
+  request-course GetStatus true = goes-on refl (stands b bytes memory h) refl
+  request-course GetMaxLun true = goes-on refl (stands b bytes memory h) refl
+  request-course MassStorageReset true = goes-on refl (stands b bytes memory h) refl
+  request-course LoadConfigData true = goes-on refl (stands b _ _ h) refl
+  request-course ReadConfigData true = goes-on refl (stands b bytes memory h) refl
+  request-course SoftReset true = goes-on refl (stands b bytes memory h) refl
+  request-course BogusRead true = goes-on refl (stands b bytes memory h) refl
+  request-course Unknown true = goes-on refl (stands b bytes memory h) refl
 
 -- the course of every event at a stop
 course : {r : Bool} {w : World} → Stands r w → (e : Event)
     → Course r w (step w e .next) (step (calmed w) e .next) (clearsSecond step w e) (boundary step w e)
     (accepts step SetConfiguration w e || isBusReset e) (accepts step MassStorageReset w e) (accepts step LoadConfigData w e)
-unfolding step packetAnswer reportAnswer statusAnswer
-course (stands b m h) BusReset = ended refl refl (λ x. absurd (false≢true x))
-course {r} (stands b m h) (Control setup host room) =
+unfolding step change packetAnswer reportAnswer statusAnswer
+course (stands b bytes memory h) BusReset = ended refl refl (λ x. absurd (false≢true x))
+course {r} (stands b bytes memory h) (Control setup host room) =
     rw request-undamaged
-    (request-course r b m h (setupOf setup) host (requestOf (setupOf setup)) (done (requestAnswer true (sizeOf m) setup (length host) room)))
-course (stands b m h) (Packet p room) = goes-on refl (stands b m h) refl
-course (stands b m h) (Report direction failed amount) = goes-on refl (stands b m h) refl
-course (stands b m h) (StatusRequest room) = goes-on refl (stands b m h) refl
+    (request-course r b bytes memory h (setupOf setup) host (requestOf (setupOf setup))
+    (done (requestAnswer true (sizeOf memory) setup (length host) room)))
+course (stands b bytes memory h) (Packet p room) = goes-on refl (stands b bytes memory h) refl
+course (stands b bytes memory h) (Report direction failed amount) = goes-on refl (stands b bytes memory h) refl
+course (stands b bytes memory h) (StatusRequest room) = goes-on refl (stands b bytes memory h) refl
 
 -- an event at a stop that is not the boundary
 lasting : {r : Bool} {w next running : World} {second ends sets resets writes : Bool} → Course r w next running second ends sets resets writes
@@ -117,12 +130,12 @@ none-given false = refl
 
 -- a stop hands out no operation and no status packet
 quiet : {r : Bool} {w : World} → Stands r w → (e : Event) → (step w e .operations ≡ []) × (statusIn e (step w e) ≡ [])
-unfolding step packetAnswer reportAnswer statusAnswer
-quiet (stands b m h) BusReset = (refl, refl)
-quiet (stands b m h) (Control setup host room) = (rw none-given, refl)
-quiet (stands b m h) (Packet p room) = (refl, refl)
-quiet (stands b m h) (Report direction failed amount) = (refl, refl)
-quiet (stands b m h) (StatusRequest room) = (refl, refl)
+unfolding step change packetAnswer reportAnswer statusAnswer
+quiet (stands b bytes memory h) BusReset = (refl, refl)
+quiet (stands b bytes memory h) (Control setup host room) = (rw none-given, refl)
+quiet (stands b bytes memory h) (Packet p room) = (refl, refl)
+quiet (stands b bytes memory h) (Report direction failed amount) = (refl, refl)
+quiet (stands b bytes memory h) (StatusRequest room) = (refl, refl)
 
 -- a run that starts with an event that is kept or not, and a run in two parts
 after-kept : (t : Bool) (w : World) (e : Event) (es : List Event)
@@ -163,12 +176,13 @@ undone n h = go (done n) refl
     go false e = refl
 
 damage-stops : (w : World) (d : Event) → Ready w → damaged (step w d .answer) ≡ true
-    → step w d .next ≡ world (configuring true (stop (w .bridge))) (w .memory)
-unfolding step
-damage-stops w d g h = rw (undone (step w d .answer) h, h) (λ j. world (configuring (g .configured j) (stop (w .bridge))) (w .memory))
+    → step w d .next ≡ world (configuring true (made Stops (w .bridge))) (w .bytes) (w .memory)
+unfolding step change
+damage-stops w d g h =
+    rw (undone (step w d .answer) h, h) (λ j. world (configuring (g .configured j) (made Stops (w .bridge))) (w .bytes) (w .memory))
 
 damage-silent : (w : World) (d : Event) → damaged (step w d .answer) ≡ true → (step w d .operations ≡ []) × (statusIn d (step w d) ≡ [])
-unfolding step
+unfolding step change
 damage-silent w BusReset h = (refl, refl)
 damage-silent w (Control setup host room) h = (rw none-given, refl)
 damage-silent w (Packet p room) h = (rw (undone _ h), refl)
@@ -176,21 +190,23 @@ damage-silent w (Report direction failed amount) h = (rw none-given, refl)
 damage-silent w (StatusRequest room) h = (rw none-given, rw (undone _ h))
 
 -- a ready bridge is calm
-ready-calm : (w : World) → Ready w → calmed (world (configuring true (w .bridge)) (w .memory)) ≡ w
+ready-calm : (w : World) → Ready w → calmed (world (configuring true (w .bridge)) (w .bytes) (w .memory)) ≡ w
 ready-calm w g =
-    sym (λ j. world (configuring (g .configured j) (inPhase (g .awaits j) (halted (g .outRuns j) (g .inRuns j) (w .bridge)))) (w .memory))
+    sym
+    (λ j.
+    world (configuring (g .configured j) (inPhase (g .awaits j) (halted (g .outRuns j) (g .inRuns j) (w .bridge)))) (w .bytes) (w .memory))
 
 -- ---- demand 3: the stop that a damaged packet makes of the bridge before it, how it lasts, and how the bridge is when it ends
 
-module _ {memory : List ℕ} {history : List Event} {d : Event} {since : List Event} (s : Stops step memory history d since) where
+module _ {memory : List ℕ} {history : List Event} {d : Event} {since : List Event} (s : Stop step memory history d since) where
   abbrev before : World
-  before = after step (world powerOn memory) history
+  before = after step (powered memory) history
 
-  stopped : step before d .next ≡ world (configuring true (stop (before .bridge))) (before .memory)
+  stopped : step before d .next ≡ world (configuring true (made Stops (before .bridge))) (before .bytes) (before .memory)
   stopped = damage-stops before d (s .ready) (s .damages)
 
   lasted : Until false (step before d .next) since
-  lasted = until (rw stopped (stands (stop (before .bridge)) (before .memory) refl)) since (s .lasts)
+  lasted = until (rw stopped (stands (made Stops (before .bridge)) (before .bytes) (before .memory) refl)) since (s .lasts)
 
   resumed : calmed (after step (step before d .next) since) ≡ after step before (keptWrites step (step before d .next) since)
   resumed =
@@ -211,11 +227,11 @@ no-end-without-reset memory history d since b s f = rw or-false at (ending (cour
 -- reset recovery calms every stop
 recovered : {r : Bool} {w : World} → Stands r w
     → (after step w (recovery bulkOut bulkIn) ≡ calmed w) × (after step w (recovery bulkIn bulkOut) ≡ calmed w)
-unfolding step requestOf requestAnswer
-recovered {r = r} (stands b m h) = go (b .halts .outward) (b .halts .inward) h
+unfolding step change requestOf requestAnswer
+recovered {r = r} (stands b bytes memory h) = go (b .halts .outward) (b .halts .inward) h
   where
     go : (o i : Bool) → (o || i) ≡ true
-        → (let v = world (configuring true (inPhase (Stopped r) (halted o i b))) m in
+        → (let v = halting b bytes memory r o i in
         (after step v (recovery bulkOut bulkIn) ≡ calmed v) × (after step v (recovery bulkIn bulkOut) ≡ calmed v))
     go true true h = (refl, refl)
     go true false h = (refl, refl)

@@ -9,14 +9,15 @@ use lib.Dec.{eqb, ltb}
 use borrow.Author.Tests.{eqb-true, eqb-false, ltb-true, ltb-false, eq-eqb, ne-eqb, lt-ltb, le-ltb}
 use Rattle.rules.specs.declared.Bridge.{Bridge}
 use Rattle.rules.specs.declared.Direction.{Direction}
-use Rattle.rules.specs.declared.Direction.the-variants.{None, In, Out}
+use Rattle.rules.specs.declared.Direction.the-variants.{Out, In}
 use Rattle.rules.specs.declared.Phase.the-variants.{Busy}
 use Rattle.rules.specs.Words.{one}
 use Rattle.rules.specs.Held.{World}
+use Rattle.rules.specs.Changes.{made}
 use Rattle.rules.specs.Reports.{malformed, mismatch, finished}
 use Rattle.rules.specs.Answers.{reportAnswer}
-use Rattle.rules.specs.Step.{Report, step}
-use Rattle.rules.specs.Demands.Cases.{Case, cases, same, fits, fitting, leaves, Each, ThirteenCases}
+use Rattle.rules.specs.Step.{Report, change, step}
+use Rattle.rules.specs.Demands.Cases.{Inwards, Outwards, Case, cases, moved, fits, fitting, leaves, Each, ThirteenCases}
 
 -- ---- where one case fits, what holds of the first that fits holds of each that does
 
@@ -62,18 +63,18 @@ positive n false e = lt-ltb 0 n (omega (arith, eqb-false n 0 e))
 -- what the drive moved: nothing, or some in a direction
 data Drove (direction amount : ℕ) : Type 0 where
   still : amount ≡ 0 → Drove direction amount
-  inward : direction ≡ 1 → eqb amount 0 ≡ false → ltb 0 amount ≡ true → Drove direction amount
-  outward : direction ≡ 2 → eqb amount 0 ≡ false → ltb 0 amount ≡ true → Drove direction amount
+  inward : direction ≡ 1 → ltb 0 amount ≡ true → moved direction amount ≡ Inwards → Drove direction amount
+  outward : direction ≡ 2 → ltb 0 amount ≡ true → moved direction amount ≡ Outwards → Drove direction amount
 
 drove : (direction amount : ℕ) → direction ≤ 2 → (direction ≡ 0 → amount ≡ 0) → Drove direction amount
 drove direction amount d a = go (eqb amount 0) (eqb direction 1) refl refl
   where
     go : (z t : Bool) → eqb amount 0 ≡ z → eqb direction 1 ≡ t → Drove direction amount
     go true t e k = still (eqb-true amount 0 e)
-    go false true e k = inward (eqb-true direction 1 k) e (positive amount false e)
+    go false true e k = inward (eqb-true direction 1 k) (positive amount false e) (rw (e, k))
     go false false e k =
         let some : direction ≡ 0 → ⊥ = λ q. eqb-false amount 0 e (a q) in
-        outward (omega (arith, eqb-false direction 1 k)) e (positive amount false e)
+        outward (omega (arith, eqb-false direction 1 k)) (positive amount false e) (rw (e, k))
 
 -- L is more than the amount, equal or fewer
 data Compared (l amount : ℕ) : Type 0 where
@@ -94,39 +95,59 @@ compared l amount = go (ltb amount l) (ltb l amount) refl refl
 module _ (tag l failed direction amount : ℕ) (b next : Bridge) where
   -- the bridge is left as a case says
   abbrev Right : Direction → Case → Type 0
-  Right host c = next ≡ leaves c tag l host failed amount b
+  Right host c = next ≡ leaves c host tag l failed amount b
 
-  -- one case fits, and the first that fits is right: a line for each
-  settle : (host : Direction) → next ≡ finished (mismatch l host direction amount) tag l host failed amount b
-      → eqb l 0 ≡ same host None → ltb 0 l ≡ not (same host None) → Drove direction amount → Compared l amount
-      → (fitting l host direction amount cases ≡ 1) × First l host direction amount (Right host) cases
+  abbrev Settled : Direction → Type 0
+  Settled host =
+      (fitting l host direction amount cases ≡ 1) × First l host direction amount (Right host) cases
+
+  abbrev Finished : Direction → Bool → Type 0
+  Finished host wrong = next ≡ made (finished wrong host tag l failed amount) b
+
+  -- one case fits, and the first that fits is right: with L = 0 one of the first three, which go by the drive alone
+  settle-none : (host : Direction) → Finished host (mismatch l host direction amount) → l ≡ 0 → Drove direction amount → Settled host
   unfolding mismatch
-  settle None x n p (still z) h = rw (x, eqb-true l 0 n, z) (refl, refl)
-  settle None x n p (inward d z q) h = rw (x, eqb-true l 0 n, d, z, q) (refl, refl)
-  settle None x n p (outward d z q) h = rw (x, eqb-true l 0 n, d, z, q) (refl, refl)
-  settle In x n p (still z) h = rw (x, z, p, le-ltb l 0 (omega arith), sub-zero) (refl, refl)
-  settle In x n p (inward d z q) (more r s t) = rw (x, d, z, q, p, r, s, t) (refl, refl)
-  settle In x n p (inward d z q) (equal e r s t) = rw (x, d, z, q, p, r, s, t, e, sub-self) (refl, refl)
-  settle In x n p (inward d z q) (fewer r s t) = rw (x, d, z, q, p, r, s, t) (refl, refl)
-  settle In x n p (outward d z q) h = rw (x, d, z, q, p) (refl, refl)
-  settle Out x n p (still z) h = rw (x, z, p, le-ltb l 0 (omega arith), sub-zero) (refl, refl)
-  settle Out x n p (inward d z q) h = rw (x, d, z, q, p) (refl, refl)
-  settle Out x n p (outward d z q) (more r s t) = rw (x, d, z, q, p, r, s, t) (refl, refl)
-  settle Out x n p (outward d z q) (equal e r s t) = rw (x, d, z, q, p, r, s, t, e, sub-self) (refl, refl)
-  settle Out x n p (outward d z q) (fewer r s t) = rw (x, d, z, q, p, r, s, t) (refl, refl)
+  settle-none Out x n (still z) = rw (x, n, z) (refl, refl)
+  settle-none Out x n (inward d q m) = rw (n, m) (refl, rw (n, d, q) at x)
+  settle-none Out x n (outward d q m) = rw (n, m) (refl, rw (n, d, q) at x)
+  settle-none In x n (still z) = rw (x, n, z) (refl, refl)
+  settle-none In x n (inward d q m) = rw (n, m) (refl, rw (n, d, q) at x)
+  settle-none In x n (outward d q m) = rw (n, m) (refl, rw (n, d, q) at x)
+
+  -- .. else one of the ten, a line for each
+  settle : (host : Direction) → Finished host (mismatch l host direction amount) → eqb l 0 ≡ false → ltb 0 l ≡ true
+      → Drove direction amount → Compared l amount → Settled host
+  unfolding mismatch
+  settle In x n p (still z) h = rw (n, z) (refl, rw (n, z, p, le-ltb l 0 (omega arith), sub-zero) at x)
+  settle In x n p (inward d q m) (more r s t) = rw (n, m, r, s, t) (refl, rw (n, d, q, p, r, t) at x)
+  settle In x n p (inward d q m) (equal e r s t) = rw (n, m, r, s, t) (refl, rw (n, d, q, p, r, t, e, sub-self) at x)
+  settle In x n p (inward d q m) (fewer r s t) = rw (n, m, r, s, t) (refl, rw (n, d, q, p, r, t) at x)
+  settle In x n p (outward d q m) h = rw (n, m) (refl, rw (n, d, q, p) at x)
+  settle Out x n p (still z) h = rw (n, z) (refl, rw (n, z, p, le-ltb l 0 (omega arith), sub-zero) at x)
+  settle Out x n p (inward d q m) h = rw (n, m) (refl, rw (n, d, q, p) at x)
+  settle Out x n p (outward d q m) (more r s t) = rw (n, m, r, s, t) (refl, rw (n, d, q, p, r, t) at x)
+  settle Out x n p (outward d q m) (equal e r s t) = rw (n, m, r, s, t) (refl, rw (n, d, q, p, r, t, e, sub-self) at x)
+  settle Out x n p (outward d q m) (fewer r s t) = rw (n, m, r, s, t) (refl, rw (n, d, q, p, r, t) at x)
 
 -- a report that is not malformed is answered 0, and finishes the command
-report-taken : (w : World) (tag l : ℕ) (host : Direction) (direction failed amount : ℕ) → w .bridge .configured ≡ true
-    → w .bridge .phase ≡ Busy tag l host → malformed direction failed amount ≡ false
+report-taken : (w : World) (host : Direction) (tag l : ℕ) (direction failed amount : ℕ) → w .bridge .configured ≡ true
+    → w .bridge .phase ≡ Busy host tag l → malformed direction failed amount ≡ false
     → (step w (Report direction failed amount) .answer ≡ 0)
-    × (step w (Report direction failed amount) .next .bridge ≡ finished (mismatch l host direction amount) tag l host failed amount (w .bridge))
-unfolding step reportAnswer
-report-taken w tag l host direction failed amount c p m = (rw (c, p, m), rw (c, p, m))
+    × (step w (Report direction failed amount) .next .bridge
+    ≡ made (finished (mismatch l host direction amount) host tag l failed amount) (w .bridge))
+unfolding step change reportAnswer
+report-taken w host tag l direction failed amount c p m = (rw (c, p, m), rw (c, p, m))
 
 pub thirteen-cases : ThirteenCases step
-thirteen-cases w tag l host direction failed amount c p n d f a =
+thirteen-cases w host tag l direction failed amount c p d f a =
     let b : Bridge = w .bridge in
     let next : Bridge = step w (Report direction failed amount) .next .bridge in
-    let r = report-taken w tag l host direction failed amount c p (legal direction failed amount d f a) in
-    let s = settle tag l failed direction amount b next host (r .1) n (positive l _ n) (drove direction amount d a) (compared l amount) in
+    let r = report-taken w host tag l direction failed amount c p (legal direction failed amount d f a) in
+    let s = by (eqb l 0) refl (r .1) in
     (s .0, r .0, one-fits l host direction amount (Right tag l failed direction amount b next host) cases (s .0) (s .1))
+  where
+    by : (t : Bool) → eqb l 0 ≡ t
+        → step w (Report direction failed amount) .next .bridge ≡ made (finished (mismatch l host direction amount) host tag l failed amount) (w .bridge)
+        → Settled tag l failed direction amount (w .bridge) (step w (Report direction failed amount) .next .bridge) host
+    by true n x = settle-none tag l failed direction amount (w .bridge) _ host x (eqb-true l 0 n) (drove direction amount d a)
+    by false n x = settle tag l failed direction amount (w .bridge) _ host x n (positive l _ n) (drove direction amount d a) (compared l amount)

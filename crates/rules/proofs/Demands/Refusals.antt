@@ -5,22 +5,23 @@ use borrow.Author.Tests.{ne-eqb}
 use Rattle.rules.specs.Held.{sizeOf}
 use Rattle.rules.specs.Requests.{setupOf, requestOf}
 use Rattle.rules.specs.Answers.{requestChecks, requestAnswer, packetChecks, packetAnswer, reportChecks, reportAnswer, statusChecks, statusAnswer}
-use Rattle.rules.specs.Step.{BusReset, Control, Packet, Report, StatusRequest, operationsFor, answer, step}
+use Rattle.rules.specs.Packets.{signatureOf}
+use Rattle.rules.specs.Step.{BusReset, Control, Packet, Report, StatusRequest, operationsFor, answer, change, step}
 use Rattle.rules.specs.Demands.Refusals.{Refusals, numbers, among, Numbered}
 use Rattle.rules.proofs.Checks.{answer-has}
 
 pub refusals : Refusals step
-unfolding step
+unfolding step change
 refusals w e h = (rw (ne-eqb (answer w e) 0 h), rw (ne-eqb (answer w e) 0 h), rw (ne-eqb (answer w e) 0 h))
 
 pub numbered : Numbered step
-unfolding step requestAnswer packetAnswer reportAnswer statusAnswer
+unfolding step change requestAnswer packetAnswer reportAnswer statusAnswer
 numbered w BusReset = refl
 numbered w (Control setup host room) =
     answer-has (λ n. among n (numbers (Control setup host room)))
     (requestChecks (w .bridge .configured) (sizeOf (w .memory)) (length setup) (setupOf setup) (requestOf (setupOf setup)) (length host) room) refl
 numbered w (Packet p room) =
-    answer-has (λ n. among n (numbers (Packet p room))) (packetChecks (w .bridge) p (length (operationsFor (w .bridge) p)) room) refl
+    answer-has (λ n. among n (numbers (Packet p room))) (packetChecks (w .bridge) p (length (operationsFor (signatureOf (w .bytes)) p)) room) refl
 numbered w (Report direction failed amount) =
     answer-has (λ n. among n (numbers (Report direction failed amount))) (reportChecks (w .bridge) direction failed amount) refl
 numbered w (StatusRequest room) = answer-has (λ n. among n (numbers (StatusRequest room))) (statusChecks (w .bridge) room) refl

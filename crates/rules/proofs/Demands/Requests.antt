@@ -1,7 +1,7 @@
 -- Demand 2, requests, proved.
 use mathlib.Core.Path.{_≡_, refl, ap, _∙_}
 use mathlib.Core.Logic.{_⊎_, inl, inr}
-use mathlib.Core.Bool.{Bool, true, false, cond, not, _&&_, _||_, true≢false, false≢true, and-eq-true-iff, or-true}
+use mathlib.Core.Bool.{Bool, true, false, cond, not, _&&_, _||_, false≢true, and-eq-true-iff, or-true}
 use mathlib.Core.List.{List, _++_}
 use Prim.Native.Nat.{ℕ, _+_, _-_, _*_, _/_, _%_, _<_, _≤_}
 use native.Mathlib.Omega.{arith}
@@ -9,27 +9,17 @@ use lib.ListN.{length, take, drop, length-drop, List·getD-append}
 use lib.Seq.{paste, length-paste, length-paste-head, length-take-le, getD-take, getD-drop, getD-append-add}
 use lib.Dec.{eqb, leb, ltb}
 use borrow.Author.Tests.{eq-eqb, eqb-true, ltb-true, ltb-false, leb-true, leb-false, not-true}
-use Rattle.rules.specs.declared.Bridge.{Bridge}
-use Rattle.rules.specs.declared.CommandPacket.{CommandPacket}
-use Rattle.rules.specs.declared.Direction.{Direction}
-use Rattle.rules.specs.declared.Direction.the-variants.{None, In, Out}
-use Rattle.rules.specs.declared.Phase.{Phase}
-use Rattle.rules.specs.declared.Phase.the-variants.{Awaiting, Busy, StatusWaiting, Stopped}
-use Rattle.rules.specs.declared.Request.{Request}
-use Rattle.rules.specs.declared.Request.the-variants.{SetConfiguration, GetConfiguration, ClearFeature, GetStatus, GetMaxLun, MassStorageReset, LoadConfigData, ReadConfigData, SoftReset, BogusRead, Unknown}
+use Rattle.rules.specs.declared.Request.the-variants.{LoadConfigData, ReadConfigData}
 use Rattle.rules.specs.declared.Setup.{Setup}
-use Rattle.rules.specs.declared.Status.the-variants.{Failed}
-use Rattle.rules.specs.Words.{byte, word}
-use Rattle.rules.specs.Held.{World, sizeOf, inPhase, halting}
-use Rattle.rules.specs.Requests.{setupOf, requestOf, needsConfiguration, inBytes, inMemory, address, isA, storeOf, bridgeAfter}
-use Rattle.rules.specs.Packets.{commandOf, directionOf, recognises, commandTaken}
-use Rattle.rules.specs.Reports.{mismatch, haltedBy, reportTaken}
-use Rattle.rules.specs.Stopping.{stop}
+use Rattle.rules.specs.Words.{byte, word, over}
+use Rattle.rules.specs.Held.{World, sizeOf}
+use Rattle.rules.specs.Requests.{setupOf, requestOf, needsConfiguration, inBytes, inMemory, address, isA, storeOf}
 use Rattle.rules.specs.Answers.{requestAnswer, packetAnswer, reportAnswer, statusAnswer}
-use Rattle.rules.proofs.Checks.{request-has, accepted-write}
-use Rattle.rules.proofs.Replies.{read-inside}
-use Rattle.rules.specs.Step.{Event, BusReset, Control, Packet, Report, StatusRequest, answer, bridgeDone, memoryDone, done, damaged, step}
+use Rattle.rules.specs.Step.{Event, BusReset, Control, Packet, Report, StatusRequest, answer, bytesDone, memoryDone, done, change, step}
 use Rattle.rules.specs.Demands.Requests.{WholeFields, Unconfigured, Holds, ExactWrites, NoOtherWrites, ExactReads}
+use Rattle.rules.proofs.Checks.{request-has, accepted-write}
+use Rattle.rules.proofs.Rows.{over-pastes}
+use Rattle.rules.proofs.Replies.{read-inside}
 
 whole : (x : ℕ) → x % 256 + 256 * (x / 256) ≡ x
 whole x = omega arith
@@ -43,7 +33,7 @@ needs kind (inr (inl h)) = rw h
 needs kind (inr (inr h)) = rw h (simp or-true)
 
 pub unconfigured : Unconfigured step
-unfolding step requestAnswer packetAnswer reportAnswer statusAnswer
+unfolding step change requestAnswer packetAnswer reportAnswer statusAnswer
 unconfigured w BusReset c g = absurd g
 unconfigured w (Control setup host room) c g = rw (c, eq-eqb _ _ (g .0), needs (byte 0 setup) (g .1))
 unconfigured w (Packet p room) c g = rw c
@@ -91,37 +81,42 @@ pasted store host start n fits h = (length-paste store start host n fits (omega 
         ∙ getD-drop (start + n) store (k - (start + n)) 0
         ∙ ap (λ (x : ℕ). byte x store) j
 
+-- .. and so is one over which the host's bytes are laid
+written : (store host : List ℕ) (start n : ℕ) → start + n ≤ length store → length host ≡ n → Holds true start n host store (over store start host)
+written store host start n fits h =
+    rw (over-pastes store start host n (omega arith)) (pasted store host start n fits h)
+
 two-places : (place : ℕ) → inBytes place ≡ true → inMemory place ≡ true → ⊥
 two-places place p q = let a : place ≡ 0 = eqb-true place 0 p in let b : place ≡ 2 = eqb-true place 2 q in omega arith
 
 -- a write at an address that is right changes the bytes or the memory
-module _ (m : ℕ) (place start n : ℕ) (b memory host : List ℕ) (sixteen : length b ≡ 16) (size : m ≤ length memory) (long : length host ≡ n) where
+module _ (m : ℕ) (place start n : ℕ) (bytes memory host : List ℕ) (sixteen : length bytes ≡ 16) (size : m ≤ length memory) (long : length host ≡ n) where
   held : (inBytes place || inMemory place) ≡ true → address true m place start n ≡ true
-      → Holds (inBytes place) start n host b (cond (inMemory place) b (paste b start host n))
-      × Holds (inMemory place) start n host memory (cond (inMemory place) (paste memory start host n) memory)
+      → Holds (inBytes place) start n host bytes (cond (not (inMemory place)) (over bytes start host) bytes)
+      × Holds (inMemory place) start n host memory (cond (inMemory place) (over memory start host) memory)
   unfolding address
   held p a = go (inBytes place) refl (inMemory place) refl p a
     where
       go : (x : Bool) → inBytes place ≡ x → (y : Bool) → inMemory place ≡ y → (x || y) ≡ true
           → cond y (ltb start m && leb (start + n) m) (leb 2 start && leb start 15 && leb (start + n) 16) ≡ true
-          → Holds x start n host b (cond y b (paste b start host n)) × Holds y start n host memory (cond y (paste memory start host n) memory)
+          → Holds x start n host bytes (cond (not y) (over bytes start host) bytes) × Holds y start n host memory (cond y (over memory start host) memory)
       go true ex true ey p a = absurd (two-places place ex ey)
       go false ex true ey p a =
           let l : start + n ≤ m = leb-true (start + n) m (and-eq-true-iff (ltb start m) (leb (start + n) m) .0 a .1) in
-          ((refl, λ k. refl), pasted memory host start n (omega arith) long)
+          ((refl, λ k. refl), written memory host start n (omega arith) long)
       go true ex false ey p a =
           let l : start + n ≤ 16 = leb-true (start + n) 16 (and-eq-true-iff (leb 2 start && leb start 15) (leb (start + n) 16) .0 a .1) in
-          (pasted b host start n (omega arith) long, (refl, λ k. refl))
+          (written bytes host start n (omega arith) long, (refl, λ k. refl))
       go false ex false ey p a = absurd (false≢true p)
 
 pub exact-writes : ExactWrites step
-unfolding step
+unfolding step change
 exact-writes w setup host room sixteen i a =
     let pair = and-eq-true-iff (eqb (byte 0 setup) 0x40) (eqb (byte 1 setup) 0x01) .0 i in
     let load : requestOf (setupOf setup) ≡ LoadConfigData = is-load (setupOf setup) (eqb-true _ _ (pair .0)) (eqb-true _ _ (pair .1)) in
     let p = accepted-write (w .bridge .configured) (sizeOf (w .memory)) setup (length host) room load a in
     rw (a, load)
-    (held (sizeOf (w .memory)) (word 2 setup) (word 4 setup) (word 6 setup) (w .bridge .bytes) (w .memory) host sixteen (omega arith) (p .2) (p .0) (p .1))
+    (held (sizeOf (w .memory)) (word 2 setup) (word 4 setup) (word 6 setup) (w .bytes) (w .memory) host sixteen (omega arith) (p .2) (p .0) (p .1))
 
 -- ---- no other writes
 
@@ -131,57 +126,22 @@ not-load s h =
     not-true _ (request-has (λ kind code. not (eqb kind 0x40 && eqb code 0x01)) (λ r. not (isA LoadConfigData r)) s (rw h) refl)
 
 -- an event that, done, keeps both places keeps them whatever its answer
-untouched : (w : World) (e : Event) → bridgeDone (w .bridge) e .bytes ≡ w .bridge .bytes → memoryDone (w .memory) e ≡ w .memory
-    → (step w e .next .bridge .bytes ≡ w .bridge .bytes) × (step w e .next .memory ≡ w .memory)
-unfolding step
-untouched w e b m = (bytes (done (answer w e)) (damaged (answer w e)), memory (done (answer w e)))
+untouched : (w : World) (e : Event) → bytesDone (w .bytes) e ≡ w .bytes → memoryDone (w .memory) e ≡ w .memory
+    → (step w e .next .bytes ≡ w .bytes) × (step w e .next .memory ≡ w .memory)
+unfolding step change
+untouched w e b m = (kept (done (answer w e)) b, kept (done (answer w e)) m)
   where
-    bytes : (t u : Bool) → cond t (bridgeDone (w .bridge) e) (cond u (stop (w .bridge)) (w .bridge)) .bytes ≡ w .bridge .bytes
-    bytes true u = b
-    bytes false true = refl
-    bytes false false = refl
-
-    memory : (t : Bool) → cond t (memoryDone (w .memory) e) (w .memory) ≡ w .memory
-    memory true = m
-    memory false = refl
-
-halting-bytes : (d : Direction) (b : Bridge) → halting d b .bytes ≡ b .bytes
-halting-bytes None b = refl
-halting-bytes In b = refl
-halting-bytes Out b = refl
-
-request-bytes : (r : Request) (s : Setup) (host : List ℕ) (b : Bridge) → isA LoadConfigData r ≡ false → bridgeAfter r s host b .bytes ≡ b .bytes
-request-bytes SetConfiguration s host b h = refl
-request-bytes GetConfiguration s host b h = refl
-request-bytes ClearFeature s host b h = refl
-request-bytes GetStatus s host b h = refl
-request-bytes GetMaxLun s host b h = refl
-request-bytes MassStorageReset s host b h = refl
-request-bytes LoadConfigData s host b h = absurd (true≢false h)
-request-bytes ReadConfigData s host b h = refl
-request-bytes SoftReset s host b h = refl
-request-bytes BogusRead s host b h = refl
-request-bytes Unknown s host b h = refl
-
-command-bytes : (t : Bool) (c : CommandPacket) (b : Bridge) → commandTaken t c b .bytes ≡ b .bytes
-command-bytes true c b = refl
-command-bytes false c b = halting-bytes (directionOf c) (inPhase (StatusWaiting (c .tag) (c .length) Failed) b)
-
-report-bytes : (direction failed amount : ℕ) (p : Phase) (b : Bridge) → reportTaken direction failed amount p b .bytes ≡ b .bytes
-report-bytes direction failed amount Awaiting b = refl
-report-bytes direction failed amount (Busy tag l host) b = halting-bytes (haltedBy (mismatch l host direction amount) l host amount) _
-report-bytes direction failed amount (StatusWaiting tag residue status) b = refl
-report-bytes direction failed amount (Stopped reset) b = refl
+    kept : (t : Bool) {next now : List ℕ} → next ≡ now → cond t next now ≡ now
+    kept true h = h
+    kept false h = refl
 
 pub no-other-writes : NoOtherWrites step
 no-other-writes w BusReset h = untouched w BusReset refl refl
 no-other-writes w (Control setup host room) h =
     let r : isA LoadConfigData (requestOf (setupOf setup)) ≡ false = not-load (setupOf setup) h in
-    untouched w (Control setup host room) (request-bytes (requestOf (setupOf setup)) (setupOf setup) host (w .bridge) r) (rw r)
-no-other-writes w (Packet p room) h =
-    untouched w (Packet p room) (command-bytes (recognises (w .bridge) p) (commandOf p) (w .bridge)) refl
-no-other-writes w (Report direction failed amount) h =
-    untouched w (Report direction failed amount) (report-bytes direction failed amount (w .bridge .phase) (w .bridge)) refl
+    untouched w (Control setup host room) (rw r) (rw r)
+no-other-writes w (Packet p room) h = untouched w (Packet p room) refl refl
+no-other-writes w (Report direction failed amount) h = untouched w (Report direction failed amount) refl refl
 no-other-writes w (StatusRequest room) h = untouched w (StatusRequest room) refl refl
 
 -- ---- exact reads
@@ -192,7 +152,7 @@ unfolding requestOf
 is-read s k c = rw (k, c)
 
 pub exact-reads : ExactReads step
-unfolding step
+unfolding step change
 exact-reads w setup host room sixteen kind code a =
     let read : requestOf (setupOf setup) ≡ ReadConfigData = is-read (setupOf setup) kind code in
     let store : List ℕ = storeOf (word 2 setup) w in

@@ -6,19 +6,19 @@ use Prim.Native.Nat.{ℕ}
 use native.Mathlib.Omega.{arith}
 use lib.Dec.{eqb}
 use lib.ListN.{length}
-use Rattle.rules.specs.Held.{World, world, powerOn, isAwaiting}
+use Rattle.rules.specs.Held.{World, powered, isAwaiting}
 use Rattle.rules.specs.Requests.{requestOf, address, onePage}
 use Rattle.rules.specs.Packets.{valid, meaningful, recognised}
 use Rattle.rules.specs.Operations.{operationsOf}
 use Rattle.rules.specs.Reports.{malformed, mismatch}
 use Rattle.rules.specs.Answers.{requestAnswer, packetAnswer, reportAnswer, statusAnswer}
-use Rattle.rules.specs.Step.{Packet, step, after}
+use Rattle.rules.specs.Step.{Packet, change, step, after}
 use Rattle.rules.specs.Demands.Requests.{wire}
 use Rattle.rules.specs.Demands.Examples.{configure, identifying}
 use Rattle.rules.specs.Demands.ShutOut.{ShutOut}
 
 abbrev configured : World
-configured = after step (world powerOn []) (configure ∷ [])
+configured = after step (powered []) (configure ∷ [])
 
 abbrev waits : World → Bool
 waits w = isAwaiting (w .bridge .phase)
@@ -27,7 +27,7 @@ differ : {A : Type 0} (test : A → Bool) {x y : A} → x ≡ y → test x ≡ t
 differ test e p q = true≢false (sym p ∙ ap test e ∙ q)
 
 pub shut-out : ShutOut
-unfolding step requestOf address onePage requestAnswer packetAnswer reportAnswer statusAnswer valid meaningful recognised operationsOf malformed mismatch
+unfolding step change requestOf address onePage requestAnswer packetAnswer reportAnswer statusAnswer valid meaningful recognised operationsOf malformed mismatch
 shut-out = (
   λ h. false≢true h,
   λ h. differ (eqb 0) (h configured (wire 0xC0 0x02 0 4 1) [] 1 refl refl refl refl .1 0 (omega arith)) refl refl,

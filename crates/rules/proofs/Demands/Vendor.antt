@@ -7,14 +7,16 @@ use lib.Dec.{eqb}
 use lib.ListN.{length}
 use borrow.Author.Tests.{eq-eqb}
 use Rattle.rules.specs.declared.Bridge.{Bridge}
+use Rattle.rules.specs.declared.Change.the-variants.{Nothing}
 use Rattle.rules.specs.declared.Phase.the-variants.{Stopped}
 use Rattle.rules.specs.declared.Request.{Request}
 use Rattle.rules.specs.declared.Request.the-variants.{SetConfiguration, GetConfiguration, ClearFeature, GetStatus, GetMaxLun, MassStorageReset, LoadConfigData, ReadConfigData, SoftReset, BogusRead, Unknown}
 use Rattle.rules.specs.declared.Setup.{Setup}
-use Rattle.rules.specs.Held.{world, sizeOf, holding, inPhase, halted}
-use Rattle.rules.specs.Requests.{setupOf, requestOf, isA, hasPlace, replyTo, bridgeAfter}
+use Rattle.rules.specs.Held.{world, sizeOf, inPhase, halted}
+use Rattle.rules.specs.Changes.{made}
+use Rattle.rules.specs.Requests.{setupOf, requestOf, isA, hasPlace, replyTo, changeBy}
 use Rattle.rules.specs.Answers.{requestAnswer}
-use Rattle.rules.specs.Step.{step, done}
+use Rattle.rules.specs.Step.{change, step, done}
 use Rattle.rules.specs.Demands.Boundary.{VendorInStop}
 use Rattle.rules.proofs.Checks.{request-undamaged, request-has}
 
@@ -23,13 +25,13 @@ abbrev vendor : Request → Bool
 vendor q = hasPlace q || isA SoftReset q || isA BogusRead q || isA Unknown q
 
 -- a vendor request, accepted or not, of a stopped bridge and of the same bridge had it not stopped
-module _ (b : Bridge) (m : List ℕ) (reset o i : Bool) (s : Setup) (host : List ℕ) where
-  abbrev stopped : Bridge
-  stopped = inPhase (Stopped reset) (halted o i b)
+module _ (b : Bridge) (bytes memory : List ℕ) (reset out back : Bool) (s : Setup) where
+  abbrev stop : Bridge
+  stop = inPhase (Stopped reset) (halted out back b)
 
   alike : (q : Request) (t : Bool) → vendor q ≡ true
-      → (_≡_ {A = List ℕ} (cond t (replyTo q s (world stopped m)) []) (cond t (replyTo q s (world b m)) []))
-      × (cond t (bridgeAfter q s host stopped) stopped ≡ holding (cond t (bridgeAfter q s host b) b .bytes) stopped)
+      → (_≡_ {A = List ℕ} (cond t (replyTo q s (world stop bytes memory)) []) (cond t (replyTo q s (world b bytes memory)) []))
+      × (made (cond t (changeBy q s stop) Nothing) stop ≡ stop)
   alike q false v = (refl, refl)
   alike SetConfiguration true v = absurd (false≢true v)
   alike GetConfiguration true v = absurd (false≢true v)
@@ -44,9 +46,9 @@ module _ (b : Bridge) (m : List ℕ) (reset o i : Bool) (s : Setup) (host : List
   alike Unknown true v = (refl, refl)
 
 pub vendor-in-stop : VendorInStop step
-unfolding step
-vendor-in-stop b m reset o i setup host room k =
+unfolding step change
+vendor-in-stop b bytes memory reset out back setup host room k =
     let s = setupOf setup in
     let v = request-has (λ kind code. eqb (kind / 32 % 4) 2) vendor s (eq-eqb _ 2 k) refl in
-    let a = alike b m reset o i s host (requestOf s) (done (requestAnswer (b .configured) (sizeOf m) setup (length host) room)) v in
-    rw request-undamaged (refl, a .0, refl, a .1)
+    let a = alike b bytes memory reset out back s (requestOf s) (done (requestAnswer (b .configured) (sizeOf memory) setup (length host) room)) v in
+    rw request-undamaged (refl, a .0, rw (a .1))

@@ -8,7 +8,7 @@ use Rattle.rules.specs.declared.Request.the-variants.{SetConfiguration, 
 use Rattle.rules.specs.declared.Bridge.{Bridge}
 use Rattle.rules.specs.declared.Phase.the-variants.{Awaiting, Stopped}
 use Rattle.rules.specs.Words.{byte}
-use Rattle.rules.specs.Held.{World, world, powerOn, bulkOut, bulkIn, holding, inPhase, halted}
+use Rattle.rules.specs.Held.{World, world, powered, bulkOut, bulkIn, inPhase, halted}
 use Rattle.rules.specs.Requests.{setupOf, requestOf, isA}
 use Rattle.rules.specs.Demands.Refusals.{damages as isDamage}
 use Rattle.rules.specs.Step.{Event, BusReset, Control, Packet, Report, StatusRequest, Outcome, Machine, after, done}
@@ -78,23 +78,23 @@ Silent s w [] = Unit {0}
 Silent s w (e ∷ es) = (s w e .operations ≡ []) × (statusIn e (s w e) ≡ []) × Silent s (s w e .next) es
 
 -- a stop, after any history from power-on: the damaged packet d, and the events since, none of them the boundary
-pub record Stops (s : Machine) (memory : List ℕ) (history : List Event) (d : Event) (since : List Event) : Type 0 where
-  pub ready : Ready (after s (world powerOn memory) history)
-  pub damages : isDamage (s (after s (world powerOn memory) history) d .answer) ≡ true
-  pub lasts : unbroken s (s (after s (world powerOn memory) history) d .next) since ≡ true
+pub record Stop (s : Machine) (memory : List ℕ) (history : List Event) (d : Event) (since : List Event) : Type 0 where
+  pub ready : Ready (after s (powered memory) history)
+  pub damages : isDamage (s (after s (powered memory) history) d .answer) ≡ true
+  pub lasts : unbroken s (s (after s (powered memory) history) d .next) since ≡ true
 
 -- "Until the boundary named in document 01, no register operation and no status packet is handed out."
 abbrev pub Silence : Machine → Type 0
 Silence s =
-    (memory : List ℕ) (history : List Event) (d : Event) (since : List Event) → Stops s memory history d since
-    → Silent s (after s (world powerOn memory) history) (d ∷ since)
+    (memory : List ℕ) (history : List Event) (d : Event) (since : List Event) → Stop s memory history d since
+    → Silent s (after s (powered memory) history) (d ∷ since)
 
 -- "After it, the bridge is in the state of one that never received the damaged packet nor anything since, save accepted vendor writes and the
 -- bus reset or configuration change, if one was the boundary."
 abbrev pub Resumption : Machine → Type 0
 Resumption s =
-    (memory : List ℕ) (history : List Event) (d : Event) (since : List Event) (b : Event) → Stops s memory history d since
-    → (let w : World = after s (world powerOn memory) history in
+    (memory : List ℕ) (history : List Event) (d : Event) (since : List Event) (b : Event) → Stop s memory history d since
+    → (let w : World = after s (powered memory) history in
     let v : World = s w d .next in
     boundary s (after s v since) b ≡ true
     → after s w (d ∷ since ++ b ∷ []) ≡ after s w (keptWrites s v since ++ keptBoundary s (after s v since) b))
@@ -107,8 +107,8 @@ resetAmong s w (e ∷ es) = accepts s MassStorageReset w e || resetAmong s (s w 
 -- "Before a Mass Storage Reset, Clear Feature answers 0 and clears nothing": Clear Feature alone never ends a stop.
 abbrev pub NoEndWithoutReset : Machine → Type 0
 NoEndWithoutReset s =
-    (memory : List ℕ) (history : List Event) (d : Event) (since : List Event) (b : Event) → Stops s memory history d since
-    → (let v : World = s (after s (world powerOn memory) history) d .next in
+    (memory : List ℕ) (history : List Event) (d : Event) (since : List Event) (b : Event) → Stop s memory history d since
+    → (let v : World = s (after s (powered memory) history) d .next in
     clearsSecond s (after s v since) b ≡ true → resetAmong s v since ≡ true)
 
 -- ---- BOT's reset recovery ends every stop, whichever pipe is cleared first.
@@ -121,8 +121,8 @@ recovery first second = request 0x21 0xFF 0 ∷ request 0x02 0x01 first ∷ requ
 
 abbrev pub Recovery : Machine → Type 0
 Recovery s =
-    (memory : List ℕ) (history : List Event) (d : Event) (since : List Event) → Stops s memory history d since
-    → (let w : World = after s (world powerOn memory) history in
+    (memory : List ℕ) (history : List Event) (d : Event) (since : List Event) → Stop s memory history d since
+    → (let w : World = after s (powered memory) history in
     let end : World = after s w (keptWrites s (s w d .next) since) in
     (after s w (d ∷ since ++ recovery bulkOut bulkIn) ≡ end) × (after s w (d ∷ since ++ recovery bulkIn bulkOut) ≡ end))
 
@@ -130,10 +130,10 @@ Recovery s =
 -- bridge had it not stopped, and the stop stands.
 abbrev pub VendorInStop : Machine → Type 0
 VendorInStop s =
-    (b : Bridge) (m : List ℕ) (reset o i : Bool) (setup host : List ℕ) (room : ℕ) → byte 0 setup / 32 % 4 ≡ 2
-    → (let stopped = s (world (inPhase (Stopped reset) (halted o i b)) m) (Control setup host room) in
-    let running = s (world b m) (Control setup host room) in
+    (b : Bridge) (bytes memory : List ℕ) (reset out back : Bool) (setup host : List ℕ) (room : ℕ) → byte 0 setup / 32 % 4 ≡ 2
+    → (let stop = inPhase (Stopped reset) (halted out back b) in
+    let stopped = s (world stop bytes memory) (Control setup host room) in
+    let running = s (world b bytes memory) (Control setup host room) in
     (stopped .answer ≡ running .answer)
     × (stopped .reply ≡ running .reply)
-    × (stopped .next .memory ≡ running .next .memory)
-    × (stopped .next .bridge ≡ holding (running .next .bridge .bytes) (inPhase (Stopped reset) (halted o i b))))
+    × (stopped .next ≡ world stop (running .next .bytes) (running .next .memory)))

@@ -6,25 +6,29 @@ use Prim.Native.Nat.{ℕ, _+_, _-_, _≤_}
 use lib.Dec.{eqb, ltb}
 use Rattle.rules.specs.declared.Bridge.{Bridge}
 use Rattle.rules.specs.declared.Direction.{Direction}
-use Rattle.rules.specs.declared.Direction.the-variants.{None, In, Out}
+use Rattle.rules.specs.declared.Direction.the-variants.{Out, In}
 use Rattle.rules.specs.declared.Phase.the-variants.{Busy, StatusWaiting}
-use Rattle.rules.specs.declared.Status.the-variants.{Passed, Failed, PhaseError}
 use Rattle.rules.specs.Words.{one}
 use Rattle.rules.specs.Held.{World, inPhase, halting}
-use Rattle.rules.specs.Reports.{directionNumber}
 use Rattle.rules.specs.Step.{Report, Machine}
+
+-- data goes no way, in, or out
+pub data Way : Type 0 where
+  No : Way
+  Inwards : Way
+  Outwards : Way
 
 -- What the host expects (Hn, Hi, Ho), what the drive did (Dn, Di, Do), how L compares with the amount; then whether the status is the
 -- drive's own or a phase error, the residue, and whether the host direction's pipe is halted.
 pub record Case : Type 0 where
-  pub host : Direction
-  pub drive : Direction
+  pub host : Way
+  pub drive : Way
   pub compares : ℕ → ℕ → Bool
   pub own : Bool
   pub residue : ℕ → ℕ → ℕ
   pub halts : Bool
 
-abbrev pub case : Direction → Direction → (ℕ → ℕ → Bool) → Bool → (ℕ → ℕ → ℕ) → Bool → Case
+abbrev pub case : Way → Way → (ℕ → ℕ → Bool) → Bool → (ℕ → ℕ → ℕ) → Bool → Case
 case h d c o r k = record { host = h; drive = d; compares = c; own = o; residue = r; halts = k }
 
 abbrev pub more : ℕ → ℕ → Bool
@@ -50,54 +54,69 @@ none l amount = 0
 
 abbrev pub cases : List Case
 cases =
-    case None None any true none false ∷  -- 1  Hn = Dn
-    case None In any false none false ∷  -- 2  Hn < Di
-    case None Out any false none false ∷  -- 3  Hn < Do
-    case In None any true whole true ∷  -- 4  Hi > Dn
-    case In In more true rest true ∷  -- 5  Hi > Di
-    case In In equal true none false ∷  -- 6  Hi = Di
-    case In In fewer false whole true ∷  -- 7  Hi < Di
-    case In Out any false whole true ∷  -- 8  Hi <> Do
-    case Out None any true whole true ∷  -- 9  Ho > Dn
-    case Out In any false whole true ∷  -- 10 Ho <> Di
-    case Out Out more true rest true ∷  -- 11 Ho > Do
-    case Out Out equal true none false ∷  -- 12 Ho = Do
-    case Out Out fewer false whole true ∷  -- 13 Ho < Do
+    case No No any true none false ∷  -- 1  Hn = Dn
+    case No Inwards any false none false ∷  -- 2  Hn < Di
+    case No Outwards any false none false ∷  -- 3  Hn < Do
+    case Inwards No any true whole true ∷  -- 4  Hi > Dn
+    case Inwards Inwards more true rest true ∷  -- 5  Hi > Di
+    case Inwards Inwards equal true none false ∷  -- 6  Hi = Di
+    case Inwards Inwards fewer false whole true ∷  -- 7  Hi < Di
+    case Inwards Outwards any false whole true ∷  -- 8  Hi <> Do
+    case Outwards No any true whole true ∷  -- 9  Ho > Dn
+    case Outwards Inwards any false whole true ∷  -- 10 Ho <> Di
+    case Outwards Outwards more true rest true ∷  -- 11 Ho > Do
+    case Outwards Outwards equal true none false ∷  -- 12 Ho = Do
+    case Outwards Outwards fewer false whole true ∷  -- 13 Ho < Do
     []
 
--- the drive moved nothing, or so much in a direction
-abbrev pub moved : ℕ → ℕ → Direction
-moved direction amount = cond (eqb amount 0) None (cond (eqb direction 1) In Out)
+-- the host expects nothing, or L bytes in a direction
+abbrev pub wayOf : Direction → Way
+wayOf Out = Outwards
+wayOf In = Inwards
 
-abbrev pub same : Direction → Direction → Bool
-same x y = eqb (directionNumber x) (directionNumber y)
+abbrev pub expected : ℕ → Direction → Way
+expected l host = cond (eqb l 0) No (wayOf host)
+
+-- the drive moved nothing, or so much in a direction
+abbrev pub moved : ℕ → ℕ → Way
+moved direction amount = cond (eqb amount 0) No (cond (eqb direction 1) Inwards Outwards)
+
+abbrev pub same : Way → Way → Bool
+same No No = true
+same No Inwards = false
+same No Outwards = false
+same Inwards No = false
+same Inwards Inwards = true
+same Inwards Outwards = false
+same Outwards No = false
+same Outwards Inwards = false
+same Outwards Outwards = true
 
 abbrev pub fits : ℕ → Direction → ℕ → ℕ → Case → Bool
-fits l host direction amount c = same host (c .host) && same (moved direction amount) (c .drive) && (c .compares) l amount
+fits l host direction amount c = same (expected l host) (c .host) && same (moved direction amount) (c .drive) && (c .compares) l amount
 
 abbrev pub fitting : ℕ → Direction → ℕ → ℕ → List Case → ℕ
 fitting l host direction amount [] = 0
 fitting l host direction amount (c ∷ cs) = one (fits l host direction amount c) + fitting l host direction amount cs
 
 -- the bridge that a case leaves
-abbrev pub leaves : Case → ℕ → ℕ → Direction → ℕ → ℕ → Bridge → Bridge
-leaves c tag l host failed amount b =
-    halting (cond (c .halts) host None)
-    (inPhase (StatusWaiting tag ((c .residue) l amount) (cond (c .own) (cond (eqb failed 0) Passed Failed) PhaseError)) b)
+abbrev pub leaves : Case → Direction → ℕ → ℕ → ℕ → ℕ → Bridge → Bridge
+leaves c host tag l failed amount b =
+    halting (c .halts) host (inPhase (StatusWaiting tag ((c .residue) l amount) (cond (c .own) failed 2)) b)
 
 abbrev pub Each : (Case → Type 0) → List Case → Type 0
 Each P [] = Unit {0}
 Each P (c ∷ cs) = P c × Each P cs
 
--- "These are BOT's thirteen cases": of a configured busy bridge, whose direction is none when L = 0, a report that is not malformed falls under
--- one case, and is answered 0 and leaves what that case says.
+-- "These are BOT's thirteen cases": of a configured busy bridge, a report that is not malformed falls under one case, and is answered 0 and leaves
+-- what that case says.
 abbrev pub ThirteenCases : Machine → Type 0
 ThirteenCases s =
-    (w : World) (tag l : ℕ) (host : Direction) (direction failed amount : ℕ) → w .bridge .configured ≡ true → w .bridge .phase ≡ Busy tag l host
-    → eqb l 0 ≡ same host None → direction ≤ 2 → failed ≤ 1 → (direction ≡ 0 → amount ≡ 0)
+    (w : World) (host : Direction) (tag l : ℕ) (direction failed amount : ℕ) → w .bridge .configured ≡ true → w .bridge .phase ≡ Busy host tag l
+    → direction ≤ 2 → failed ≤ 1 → (direction ≡ 0 → amount ≡ 0)
     → (fitting l host direction amount cases ≡ 1)
     × (s w (Report direction failed amount) .answer ≡ 0)
     × Each
     (λ c. fits l host direction amount c ≡ true
-    → s w (Report direction failed amount) .next .bridge ≡ leaves c tag l host failed amount (w .bridge))
+    → s w (Report direction failed amount) .next .bridge ≡ leaves c host tag l failed amount (w .bridge))
     cases

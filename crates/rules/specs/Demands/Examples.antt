@@ -7,8 +7,7 @@ use lib.ListN.{length, replicate}
 use lib.Dec.{eqb}
 use Rattle.rules.specs.declared.Phase.{Phase}
 use Rattle.rules.specs.declared.Phase.the-variants.{Awaiting, Busy, StatusWaiting, Stopped}
-use Rattle.rules.specs.Held.{World, world, powerOn, bulkOut, bulkIn}
-use Rattle.rules.specs.Packets.{statusNumber}
+use Rattle.rules.specs.Held.{World, powered, bulkOut, bulkIn}
 use Rattle.rules.specs.Step.{Event, Control, Packet, Report, StatusRequest, Outcome, Machine, after}
 use Rattle.rules.specs.Demands.Requests.{wire}
 use Rattle.rules.specs.Demands.Boundary.{unbroken, boundary, keptWrites}
@@ -33,7 +32,7 @@ identify action = Packet (identifying action) 11
 
 -- "Configured, M = 2,048 unless told."
 abbrev pub ready : Machine → World
-ready s = after s (world powerOn (replicate 2048 0xFF)) (configure ∷ [])
+ready s = after s (powered (replicate 2048 0xFF)) (configure ∷ [])
 
 -- ---- what is right of an outcome
 
@@ -51,8 +50,8 @@ makes ops o = answers 0 o && same (o .operations) ops
 
 abbrev pub waitsWith : ℕ → ℕ → Phase → Bool
 waitsWith residue status Awaiting = false
-waitsWith residue status (Busy tag l direction) = false
-waitsWith residue status (StatusWaiting tag r s) = eqb r residue && eqb (statusNumber s) status
+waitsWith residue status (Busy direction tag l) = false
+waitsWith residue status (StatusWaiting tag r s) = eqb r residue && eqb s status
 waitsWith residue status (Stopped reset) = false
 
 abbrev pub reports : ℕ → ℕ → Outcome → Bool

@@ -4,8 +4,9 @@ use mathlib.Core.Bool.{Bool, true, false, cond, _||_}
 use mathlib.Core.List.{List, [], _∷_}
 use Prim.Native.Nat.{ℕ}
 use lib.Dec.{eqb}
+use Rattle.rules.specs.declared.Change.the-variants.{Nothing, Stops}
 use Rattle.rules.specs.Held.{World, world}
-use Rattle.rules.specs.Stopping.{stop}
+use Rattle.rules.specs.Changes.{made}
 use Rattle.rules.specs.Step.{Event, BusReset, Control, Packet, Report, StatusRequest, Machine}
 
 -- the numbers of a damaged command packet: "answer 13 or 14"
@@ -19,7 +20,7 @@ Refusals s =
     (w : World) (e : Event) → (s w e .answer ≡ 0 → ⊥)
     → (s w e .reply ≡ [])
     × (s w e .operations ≡ [])
-    × (s w e .next ≡ world (cond (damages (s w e .answer)) (stop (w .bridge)) (w .bridge)) (w .memory))
+    × (s w e .next ≡ world (made (cond (damages (s w e .answer)) Stops Nothing) (w .bridge)) (w .bytes) (w .memory))
 
 -- "Each refusal has its number in document 01."
 abbrev pub numbers : Event → List ℕ

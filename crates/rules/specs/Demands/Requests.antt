@@ -50,23 +50,23 @@ Holds hit start n host before now =
 -- "A legal vendor write changes exactly its addressed bytes."
 abbrev pub ExactWrites : Machine → Type 0
 ExactWrites s =
-    (w : World) (setup host : List ℕ) (room : ℕ) → length (w .bridge .bytes) ≡ 16
+    (w : World) (setup host : List ℕ) (room : ℕ) → length (w .bytes) ≡ 16
     → isWrite (Control setup host room) ≡ true → s w (Control setup host room) .answer ≡ 0
     → (let next = s w (Control setup host room) .next in
-    Holds (eqb (word 2 setup) 0x0000) (word 4 setup) (word 6 setup) host (w .bridge .bytes) (next .bridge .bytes)
+    Holds (eqb (word 2 setup) 0x0000) (word 4 setup) (word 6 setup) host (w .bytes) (next .bytes)
     × Holds (eqb (word 2 setup) 0x0002) (word 4 setup) (word 6 setup) host (w .memory) (next .memory))
 
 -- .. and nothing else changes a byte of either place.
 abbrev pub NoOtherWrites : Machine → Type 0
 NoOtherWrites s =
     (w : World) (e : Event) → isWrite e ≡ false
-    → (s w e .next .bridge .bytes ≡ w .bridge .bytes) × (s w e .next .memory ≡ w .memory)
+    → (s w e .next .bytes ≡ w .bytes) × (s w e .next .memory ≡ w .memory)
 
 -- READ_CONFIG_DATA gives "n bytes": those that stand at the addresses from start on.
 abbrev pub ExactReads : Machine → Type 0
 ExactReads s =
-    (w : World) (setup host : List ℕ) (room : ℕ) → length (w .bridge .bytes) ≡ 16
+    (w : World) (setup host : List ℕ) (room : ℕ) → length (w .bytes) ≡ 16
     → byte 0 setup ≡ 0xC0 → byte 1 setup ≡ 0x02 → s w (Control setup host room) .answer ≡ 0
     → (let reply = s w (Control setup host room) .reply in
     (length reply ≡ word 6 setup)
-    × ((k : ℕ) → k < word 6 setup → byte k reply ≡ byte (word 4 setup + k) (cond (eqb (word 2 setup) 0x0002) (w .memory) (w .bridge .bytes))))
+    × ((k : ℕ) → k < word 6 setup → byte k reply ≡ byte (word 4 setup + k) (cond (eqb (word 2 setup) 0x0002) (w .memory) (w .bytes))))

@@ -4,8 +4,7 @@ use mathlib.Core.List.{List, [], _∷_}
 use Prim.Native.Nat.{ℕ}
 use lib.ListN.{length, replicate}
 use Rattle.rules.specs.declared.Phase.the-variants.{StatusWaiting}
-use Rattle.rules.specs.declared.Status.the-variants.{Passed}
-use Rattle.rules.specs.Held.{World, world, holding, inPhase, isStopped}
+use Rattle.rules.specs.Held.{World, world, inPhase, isStopped}
 use Rattle.rules.specs.Packets.{commandOf}
 use Rattle.rules.specs.Step.{BusReset, Control, Packet, Report, StatusRequest, Outcome, Machine, damaged, given, step}
 use Rattle.rules.specs.Demands.Examples.{Examples}
@@ -38,7 +37,7 @@ repliesZeros w e = replying (replicate (length (step w e .reply)) 0) (step w e)
 
 -- "one that accepts writes and stores nothing"
 abbrev pub storesNothing : Machine
-storesNothing w e = leaving (world (holding (w .bridge .bytes) (step w e .next .bridge)) (w .memory)) (step w e)
+storesNothing w e = leaving (world (step w e .next .bridge) (w .bytes) (w .memory)) (step w e)
 
 -- "one that performs the first command and then only builds status packets": what it does once that command is done
 abbrev pub performsFirst : Machine
@@ -46,7 +45,7 @@ performsFirst w BusReset = step w BusReset
 performsFirst w (Control setup host room) = step w (Control setup host room)
 performsFirst w (Packet p room) =
     operating []
-    (leaving (world (inPhase (StatusWaiting (commandOf p .tag) 0 Passed) (w .bridge)) (w .memory)) (step w (Packet p room)))
+    (leaving (world (inPhase (StatusWaiting (commandOf p .tag) 0 0) (w .bridge)) (w .bytes) (w .memory)) (step w (Packet p room)))
 performsFirst w (Report direction failed amount) = step w (Report direction failed amount)
 performsFirst w (StatusRequest room) = step w (StatusRequest room)
 

@@ -1,16 +1,16 @@
 -- What is true of the bridge after any history.
 use mathlib.Core.Path.{_≡_}
-use mathlib.Core.Bool.{Bool, true, false, not, _&&_, _||_}
+use mathlib.Core.Bool.{Bool, true, false, _&&_, _||_}
 use mathlib.Core.List.{List, [], _∷_}
 use Prim.Native.Nat.{ℕ, _<_}
 use lib.ListN.{length}
-use lib.Dec.{eqb}
-use Rattle.rules.specs.declared.Direction.the-variants.{None, In, Out}
+use lib.Dec.{leb, ltb}
+use Rattle.rules.specs.declared.Direction.the-variants.{Out, In}
 use Rattle.rules.specs.declared.Halts.{Halts}
 use Rattle.rules.specs.declared.Phase.{Phase}
 use Rattle.rules.specs.declared.Phase.the-variants.{Awaiting, Busy, StatusWaiting, Stopped}
 use Rattle.rules.specs.Words.{byte}
-use Rattle.rules.specs.Held.{World, world, powerOn}
+use Rattle.rules.specs.Held.{World, powered}
 use Rattle.rules.specs.Step.{Event, BusReset, Control, Packet, Report, StatusRequest, Machine, after}
 
 abbrev pub Bytes : List ℕ → Type 0
@@ -28,22 +28,22 @@ abbrev pub ProperAll : List Event → Type 0
 ProperAll [] = Unit {0}
 ProperAll (e ∷ es) = Proper e × ProperAll es
 
--- a busy bridge has a direction unless L = 0; a stop without a reset has both pipes halted, and one with a reset at least one
+-- with L = 0 a busy bridge has no direction, for which Out stands; a status is 0, 1 or 2; a stop without a reset has both pipes halted, and one
+-- with a reset at least one
 abbrev pub sound : Phase → Halts → Bool
 sound Awaiting h = true
-sound (Busy tag l None) h = eqb l 0
-sound (Busy tag l In) h = not (eqb l 0)
-sound (Busy tag l Out) h = not (eqb l 0)
-sound (StatusWaiting tag residue status) h = true
+sound (Busy Out tag l) h = true
+sound (Busy In tag l) h = ltb 0 l
+sound (StatusWaiting tag residue status) h = leb status 2
 sound (Stopped false) h = h .outward && h .inward
 sound (Stopped true) h = h .outward || h .inward
 
 pub record WellFormed (w : World) : Type 0 where
-  pub sixteen : length (w .bridge .bytes) ≡ 16
-  pub bytes : Bytes (w .bridge .bytes)
+  pub sixteen : length (w .bytes) ≡ 16
+  pub bytes : Bytes (w .bytes)
   pub memory : Bytes (w .memory)
   pub phase : sound (w .bridge .phase) (w .bridge .halts) ≡ true
 
 abbrev pub StaysWellFormed : Machine → Type 0
 StaysWellFormed s =
-    (memory : List ℕ) (history : List Event) → Bytes memory → ProperAll history → WellFormed (after s (world powerOn memory) history)
+    (memory : List ℕ) (history : List Event) → Bytes memory → ProperAll history → WellFormed (after s (powered memory) history)

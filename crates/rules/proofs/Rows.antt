@@ -1,0 +1,35 @@
+-- Laws of a row with another over it: how long it is, where all of it fits at the front, and how a loop puts it there.
+use mathlib.Core.Path.{_≡_, refl, ap}
+use mathlib.Core.List.{List, [], _∷_}
+use Prim.Native.Nat.{ℕ, zero, suc, _-_, _≤_, min}
+use native.Mathlib.Nat.{zero-add, suc-add}
+use native.Mathlib.Omega.{arith}
+use lib.ListN.{length}
+use lib.Seq.{paste, paste-zero}
+use Rattle.rules.specs.Words.{laid, over}
+
+pub over-length : (row : List ℕ) (at : ℕ) (xs : List ℕ) → length (over row at xs) ≡ length row
+unfolding over
+over-length row zero [] = refl
+over-length [] zero (x ∷ xs) = refl
+over-length (r ∷ row) zero (x ∷ xs) = ap suc (over-length row zero xs)
+over-length [] (suc at) xs = refl
+over-length (r ∷ row) (suc at) xs = ap suc (over-length row at xs)
+
+-- what fits at the front is laid there
+pub over-laid : (room out : List ℕ) → length out ≤ length room → over room 0 out ≡ laid out room
+unfolding over
+over-laid room [] h = refl
+over-laid [] (x ∷ xs) h = absurd (omega arith)
+over-laid (r ∷ room) (x ∷ xs) h = ap (λ (l : List ℕ). x ∷ l) (over-laid room xs (omega arith))
+
+-- so many are put there one by one
+pub over-pastes : (row : List ℕ) (at : ℕ) (xs : List ℕ) (n : ℕ) → n ≡ min (length xs) (length row - at) → over row at xs ≡ paste row at xs n
+unfolding over
+over-pastes row zero [] n e = let z : n ≡ 0 = omega arith in rw z
+over-pastes [] zero (x ∷ xs) n e = let z : n ≡ 0 = omega arith in rw z
+over-pastes (r ∷ row) zero (x ∷ xs) n e =
+    let z : n ≡ suc (n - 1) = omega arith in
+    rw (z, zero-add) (ap (λ (l : List ℕ). x ∷ l) (rw zero-add at (over-pastes row zero xs (n - 1) (omega arith))))
+over-pastes [] (suc at) xs n e = let z : n ≡ 0 = omega arith in rw z (paste-zero [] (suc at) xs)
+over-pastes (r ∷ row) (suc at) xs n e = rw suc-add (ap (λ (l : List ℕ). r ∷ l) (over-pastes row at xs n (omega arith)))
