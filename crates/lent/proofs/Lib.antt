@@ -1,3 +1,4 @@
+mod Copies
 pub mod Laws
 pub mod Rows
 pub mod Unique

@@ -1,9 +1,9 @@
-// What the crates above are written with: numbers from bytes, low byte first, and copying into a lent slice.
+// What the crates above are written with: numbers from bytes, low byte first, and copying into a lent slice as far as it goes.
 ghost use mathlib.Core.Path.{_≡_};
-ghost use Prim.Native.Nat.{_+_, _-_, _*_, _≤_, min};
-ghost use lib.ListN.{length};
+ghost use Prim.Native.Nat.{_+_, _*_, _≤_, min};
+ghost use lib.ListN.{length, take, drop, replicate};
 ghost use lib.Seq.{paste};
-ghost use Rattle.rules.specs.Words.{bytes4};
+ghost use Rattle.rules.specs.Words.{bytes4, over};
 
 pub fn word(a: u8, b: u8) -> u16
     ensures { λ r. ⌜ r ≡ a + 256 * b ⌝ }
@@ -47,10 +47,32 @@ fn least(a: usize, b: usize) -> usize
 
 // Copies src into dst, from `at` on and as far as dst goes.
 pub fn copy(dst: &mut [u8], at: usize, src: &[u8])
-    ensures { λ r. ⌜ now (dst .exit) ≡ paste (now (dst .entry)) at (now (src .entry)) (min (length (now (src .entry))) (length (now (dst .entry)) - at)) ⌝ }
+    ensures { λ r. ⌜ now (dst .exit) ≡ over (now (dst .entry)) at (now (src .entry)) ⌝ }
 {
     if at < dst.len() {
         let n = least(src.len(), dst.len() - at);
         copy_all(dst, at, src, n);
+    }
+}
+
+// Copies n bytes of src, from a place on, to the front of dst, as far as both go.
+pub fn copy_part(dst: &mut [u8], src: &[u8], from: usize, n: usize)
+    ensures { λ r. ⌜ now (dst .exit) ≡ over (now (dst .entry)) 0 (take n (drop from (now (src .entry)))) ⌝ }
+{
+    if from <= src.len() {
+        let end = from + least(n, src.len() - from);
+        copy(dst, 0, &src[from..end]);
+    }
+}
+
+// Clears n bytes at the front of dst, as far as it goes.
+pub fn clear(dst: &mut [u8], n: usize)
+    ensures { λ r. ⌜ now (dst .exit) ≡ over (now (dst .entry)) 0 (replicate n 0) ⌝ }
+{
+    let end = least(n, dst.len());
+    let mut i = 0;
+    while i < end {
+        dst[i] = 0;
+        i += 1;
     }
 }
