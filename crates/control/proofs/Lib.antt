@@ -1,3 +1,3 @@
-mod Granting
-mod Places
+pub mod Granting
+mod Numbers
 pub mod Unique

@@ -1,12 +1,11 @@
-// What each recovery request makes of the bridge, or of its phase.
+// What each recovery request changes.
 ghost use mathlib.Core.Path.{_≡_};
-ghost use Rattle.rules.specs.Stopping.{clears as clearing, untilClear, clearFeature, massStorageReset, softReset};
-use held::halted;
-use held::in_phase;
-use held::is_stopped;
+ghost use Rattle.rules.specs.Stopping.{clears as clearing, clearsPipe, clearFeature, massStorageReset, softReset};
+use outcomes::is_stopped;
 use rules::Bridge;
+use rules::Change;
+use rules::Direction;
 use rules::Phase;
-use rules::fields::BULK_IN;
 use rules::fields::BULK_OUT;
 
 // Before a Mass Storage Reset, Clear Feature clears nothing of a stop.
@@ -16,9 +15,9 @@ fn clears(phase: Phase) -> bool
     match phase {
         Phase::Awaiting
         | Phase::Busy {
+            direction: _,
             tag: _,
             length: _,
-            direction: _,
         }
         | Phase::StatusWaiting {
             tag: _,
@@ -29,44 +28,44 @@ fn clears(phase: Phase) -> bool
     }
 }
 
-// A stop ends when neither pipe is halted any more.
-fn until_clear(phase: Phase, some: bool) -> Phase
-    ensures { λ r. ⌜ r ≡ untilClear phase some ⌝ }
+// A pipe is cleared, the other halted or not. A stop ends with the second.
+fn clear_pipe(phase: Phase, direction: Direction, other: bool) -> Change
+    ensures { λ r. ⌜ r ≡ clearsPipe phase direction other ⌝ }
 {
-    if is_stopped(phase) & !some {
-        return Phase::Awaiting;
+    if !clears(phase) {
+        return Change::Nothing;
     }
-    phase
+    if is_stopped(phase) & !other {
+        return Change::Ends;
+    }
+    Change::Clears(direction)
 }
 
-pub(crate) fn clear_feature(index: u16, b: Bridge) -> Bridge
+pub(crate) fn clear_feature(index: u16, b: Bridge) -> Change
     ensures { λ r. ⌜ r ≡ clearFeature index b ⌝ }
 {
     let phase = b.phase;
-    let clearing = clears(phase);
-    let outward = b.halts.outward & !(clearing & (index == BULK_OUT));
-    let inward = b.halts.inward & !(clearing & (index == BULK_IN));
-    in_phase(
-        until_clear(phase, outward | inward),
-        halted(outward, inward, b),
-    )
+    if index == BULK_OUT {
+        return clear_pipe(phase, Direction::Out, b.halts.inward);
+    }
+    clear_pipe(phase, Direction::In, b.halts.outward)
 }
 
 // A stop notes that it has come.
-pub(crate) fn mass_storage_reset(phase: Phase) -> Phase
+pub(crate) fn mass_storage_reset(phase: Phase) -> Change
     ensures { λ r. ⌜ r ≡ massStorageReset phase ⌝ }
 {
     if is_stopped(phase) {
-        return Phase::Stopped { reset: true };
+        return Change::Notes;
     }
-    Phase::Awaiting
+    Change::Awaits
 }
 
-pub(crate) fn soft_reset(phase: Phase) -> Phase
+pub(crate) fn soft_reset(phase: Phase) -> Change
     ensures { λ r. ⌜ r ≡ softReset phase ⌝ }
 {
     if is_stopped(phase) {
-        return phase;
+        return Change::Nothing;
     }
-    Phase::Awaiting
+    Change::Awaits
 }

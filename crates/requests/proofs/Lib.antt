@@ -1,2 +1,3 @@
+mod Addresses
 mod Judging
 pub mod Unique

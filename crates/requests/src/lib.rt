@@ -1,12 +1,13 @@
 // Control requests, judged: the fields of a setup, the request that they make, and the answer that the checks give.
 ghost use mathlib.Core.Path.{_≡_};
 ghost use mathlib.Core.Bool.{true, cond, not, _&&_, _||_};
-ghost use mathlib.Core.List.{_++_};
-ghost use lib.Dec.{eqb};
+ghost use mathlib.Core.List.{_∷_, _++_};
+ghost use Prim.Native.Nat.{_+_};
+ghost use lib.Dec.{eqb, leb, ltb};
 ghost use lib.ListN.{length};
 ghost use Rattle.requests.specs.Judgements.{judged, judgedBy};
-ghost use Rattle.rules.specs.Words.{first};
-ghost use Rattle.rules.specs.Requests.{setupOf, requestOf, needsConfiguration, address, onePage};
+ghost use Rattle.rules.specs.Words.{_if_, first};
+ghost use Rattle.rules.specs.Requests.{setupOf, requestOf, needsConfiguration, onePage};
 ghost use Rattle.rules.specs.Held.{sizeFor, bulkOut, bulkIn};
 ghost use Rattle.rules.specs.Answers.{programChecks, placeChecks, tableChecks, dataChecks, requestAnswer};
 use rules::Request;
@@ -34,6 +35,13 @@ pub enum Judgement {
 }
 
 const PAGE: u32 = 256;
+
+const MEMORY_MOST: usize = 2048;
+
+const CONFIGURATION_SIZE: usize = 16;
+
+// The first configuration byte that is written.
+const FIRST_WRITABLE: u16 = 2;
 
 // Fields are the whole 16-bit numbers, low byte first.
 fn setup_of(setup: &[u8]) -> Setup
@@ -84,17 +92,12 @@ fn needs_configuration(kind: u8) -> bool
     (field == 1) | (field == 2) | (recipient == 2)
 }
 
-// The address rule.
-fn is_inside(writes: bool, size: u32, place: u16, start: u16, n: u16) -> bool
-    ensures { λ r. ⌜ r ≡ address writes size place start n ⌝ }
+// n bytes from start on lie among so many, and where n = 0 the start does.
+fn is_inside(size: usize, start: u16, n: u16) -> bool
+    ensures { λ r. ⌜ r ≡ (ltb start size && leb (start + n) size) ⌝ }
 {
-    let from = start as u32;
-    let past = from + n as u32;
-    if place == MEMORY {
-        return (from < size) & (past <= size);
-    }
-    let lowest: u32 = if writes { 2 } else { 0 };
-    (lowest <= from) & (from <= 15) & (past <= 16)
+    let from = start as usize;
+    (from < size) & (from + n as usize <= size)
 }
 
 // The first and the last byte lie in different pages. With n = 0 no page is crossed.
@@ -110,7 +113,7 @@ fn crosses_page(start: u16, n: u16) -> bool
 }
 
 // Checks 9 and 10, of a memory write.
-fn write_answer(start: u16, n: u16) -> u8
+fn program_answer(start: u16, n: u16) -> u8
     ensures { λ a. ⌜ a ≡ first (programChecks true start n) ⌝ }
 {
     if start % 8 != 0 {
@@ -122,23 +125,36 @@ fn write_answer(start: u16, n: u16) -> u8
     DONE
 }
 
+// Checks 8 to 10, of a write inside its place.
+fn write_answer(in_memory: bool, start: u16, n: u16) -> u8
+    ensures { λ a. ⌜ a ≡ first (8 if (not in_memory && ltb start 2) ∷ programChecks in_memory start n) ⌝ }
+{
+    if in_memory {
+        return program_answer(start, n);
+    }
+    if start < FIRST_WRITABLE {
+        return OUTSIDE;
+    }
+    DONE
+}
+
 // Checks 6 to 10, of a request that has a place.
-fn address_answer(writes: bool, size: u32, place: u16, start: u16, n: u16) -> u8
+fn address_answer(writes: bool, size: usize, place: u16, start: u16, n: u16) -> u8
     ensures { λ a. ⌜ a ≡ first (placeChecks true writes size place start n) ⌝ }
 {
-    let in_bytes = place == CONFIGURATION_BYTES;
     let in_memory = place == MEMORY;
-    if !(in_bytes | in_memory) {
+    if !((place == CONFIGURATION_BYTES) | in_memory) {
         return NO_PLACE;
     }
     if in_memory & (size == 0) {
         return NONE_FITTED;
     }
-    if !is_inside(writes, size, place, start, n) {
+    let bytes = if in_memory { size } else { CONFIGURATION_SIZE };
+    if !is_inside(bytes, start, n) {
         return OUTSIDE;
     }
-    if writes & in_memory {
-        return write_answer(start, n);
+    if writes {
+        return write_answer(in_memory, start, n);
     }
     DONE
 }
@@ -164,10 +180,10 @@ fn data_answer(s: Setup, host: usize, room: usize) -> u8
 }
 
 // M, for a slice of n bytes.
-fn size_of(n: usize) -> u32
+fn size_of(n: usize) -> usize
     ensures { λ r. ⌜ r ≡ sizeFor n ⌝ }
 {
-    if n < 2048 { n as u32 } else { 2048 }
+    if n < MEMORY_MOST { n } else { MEMORY_MOST }
 }
 
 // A request of the table, with its place and address good where it has them: granted, unless check 2 or 3 refuses its data.

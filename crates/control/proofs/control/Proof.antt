@@ -1,9 +1,8 @@
 -- `control::control` meets its contract.
-use mathlib.Core.Path.{_≡_}
-use lib.ListN.{length, length-map}
-use borrow.Author.Needs.{needs}
+use mathlib.Core.Path.{_∙_}
 use Rattle.rules.specs.Held.{world}
 use Rattle.control.proofs.Granting.{by-judgement}
+use borrow.Author.Needs.{needs}
 use Rattle.control.proofs.control.Statement.{statement}
 use Rattle.control.proofs.control.Tie as tie
 
@@ -20,18 +19,13 @@ enum-known-judgement-2 : tie.Need-enum-known-judgement-2
 enum-known-judgement-2 c = search needs
 
 serve-requires : tie.Need-serve-requires
-serve-requires c κs =
-    let start = c .before .before .before .before .before .before .before .before .before .before in
-    let at = start .args in
-    let sixteen : length (at .b .bytes) ≡ 16 = simp length-map at (start .good .0 .1 .1 .1 .0 .1 .0 .1) in
-    by-judgement (world (at .b) (at .memory .now)) (at .setup .now) (at .host .now) (at .reply .now) sixteen (c .before .before .before .before .before .judge .ensures) (c .before .before .before .judgement2 .given .1) .0
+serve-requires c κs = search needs
 
 returns : tie.Need-returns
 returns c =
-    let start = c .before .before .before .before .before .before .before .before .before in
-    let at = start .args in
-    let sixteen : length (at .b .bytes) ≡ 16 = simp length-map at (start .good .0 .1 .1 .1 .0 .1 .0 .1) in
-    rw (c .refused .ensures) (by-judgement (world (at .b) (at .memory .now)) (at .setup .now) (at .host .now) (at .reply .now) sixteen (c .before .before .before .before .judge .ensures) (c .before .before .judgement .given .1))
+    let at = c .before .before .before .before .before .before .before .before .before .args in
+    rw (c .refused .ensures)
+    (by-judgement (world (at .b) (at .bytes .now) (at .memory .now)) (at .setup .now) (at .host .now) (at .reply .now) (c .before .before .before .before .judge .ensures) (c .before .before .judgement .given .1))
 
 same-length : tie.Need-same-length
 same-length c = search needs
@@ -41,11 +35,9 @@ same-length-2 c = search needs
 
 returns-2 : tie.Need-returns-2
 returns-2 c =
-    let start = c .before .before .before .before .before .before .before .before .before .before .before .before .before .before .before in
-    let at = start .args in
-    let sixteen : length (at .b .bytes) ≡ 16 = simp length-map at (start .good .0 .1 .1 .1 .0 .1 .0 .1) in
-    rw (c .before .before .before .before .serve .ensures)
-    (by-judgement (world (at .b) (at .memory .now)) (at .setup .now) (at .host .now) (at .reply .now) sixteen (c .before .before .before .before .before .before .before .before .before .before .judge .ensures) (c .before .before .before .before .before .before .before .before .judgement2 .given .1) .1)
+    let at = c .before .before .before .before .before .before .before .before .before .before .before .before .before .before .before .before .args in
+    c .before .before .before .before .serve .ensures
+    ∙ by-judgement (world (at .b) (at .bytes .now) (at .memory .now)) (at .setup .now) (at .host .now) (at .reply .now) (c .before .before .before .before .before .before .before .before .before .before .before .judge .ensures) (c .before .before .before .before .before .before .before .before .before .judgement2 .given .1) (c .before .before .before .before .before .before .before .serve-arg .given .0 .1)
 
 pub control-spec : {M : Type 1} → statement M
 control-spec =

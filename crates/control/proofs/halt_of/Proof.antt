@@ -1,7 +1,7 @@
 -- `control::halt_of` meets its contract.
 use borrow.Author.Tests.{ne-eqb}
-use borrow.Author.Needs.{needs}
 use Rattle.lent.proofs.Laws.{bool-byte}
+use borrow.Author.Needs.{needs}
 use Rattle.control.proofs.halt_of.Statement.{statement}
 use Rattle.control.proofs.halt_of.Tie as tie
 

@@ -1,21 +1,20 @@
 -- `requests::write_answer` meets its contract.
-use mathlib.Core.Path.{sym, _∙_}
-use borrow.Author.Tests.{ne-eqb}
+use borrow.Author.Tests.{lt-ltb, le-ltb}
 use borrow.Author.Needs.{needs}
 use Rattle.requests.proofs.write_answer.Statement.{statement}
 use Rattle.requests.proofs.write_answer.Tie as tie
 
-returns : tie.Need-returns
-returns c = rw (ne-eqb _ _ (c .if1 .taken))
+program-answer-requires : tie.Need-program-answer-requires
+program-answer-requires c κs = search needs
 
-crosses-page-requires : tie.Need-crosses-page-requires
-crosses-page-requires c κs = search needs
+returns : tie.Need-returns
+returns c = rw (c .before .if1 .taken) (c .program-answer .ensures)
 
 returns-2 : tie.Need-returns-2
-returns-2 c = rw (c .before .before .if1 .left, sym (c .before .crosses-page .ensures) ∙ c .if2 .taken)
+returns-2 c = rw (c .before .if1 .left, lt-ltb _ _ (c .if2 .taken))
 
 returns-3 : tie.Need-returns-3
-returns-3 c = rw (c .before .before .if1 .left, sym (c .before .crosses-page .ensures) ∙ c .if2 .left)
+returns-3 c = rw (c .before .if1 .left, le-ltb _ _ (c .if2 .left))
 
 pub write-answer-spec : {M : Type 1} → statement M
-write-answer-spec = tie.close (tie.spec returns crosses-page-requires returns-2 returns-3)
+write-answer-spec = tie.close (tie.spec program-answer-requires returns returns-2 returns-3)

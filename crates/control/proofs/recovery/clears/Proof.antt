@@ -1,7 +1,7 @@
 -- `control::recovery::clears` meets its contract.
 use mathlib.Core.Path.{sym}
+use Rattle.outcomes.proofs.Phases.{none-stopped}
 use borrow.Author.Needs.{needs}
-use Rattle.held.proofs.Phases.{none-stopped}
 use Rattle.control.proofs.recovery.clears.Statement.{statement}
 use Rattle.control.proofs.recovery.clears.Tie as tie
 
