@@ -9,21 +9,20 @@ use lib.ListN.{length, take, drop, length-drop}
 use lib.Seq.{take-all}
 use borrow.Author.Tests.{not-true, not-false, eqb-true, le-ltb}
 use Rattle.rules.specs.declared.Bridge.{Bridge}
+use Rattle.rules.specs.declared.Change.the-variants.{Stops}
 use Rattle.rules.specs.declared.CommandPacket.{CommandPacket}
 use Rattle.rules.specs.declared.Direction.{Direction}
-use Rattle.rules.specs.Words.{byte, long, _if_, first}
+use Rattle.rules.specs.Words.{long, _if_, first}
 use Rattle.rules.specs.Packets.{commandLayout, commandOf, blockOf, valid, meaningful, directionOf, recognises}
 use Rattle.rules.specs.Operations.{codes, operationsOf}
-use Rattle.rules.specs.Stopping.{stop}
 use Rattle.rules.specs.Answers.{packetAnswer}
 use Rattle.rules.specs.Step.{Packet, operationsFor}
-use Rattle.rules.specs.Promise.{Told}
+use Rattle.rules.specs.Promise.{ToldOf}
 use Rattle.rules.proofs.Promises.{packet-refused, packet-done}
-use Rattle.held.specs.Outcomes.{Answers}
+use Rattle.outcomes.specs.Outcomes.{AnswersOf}
 use Rattle.passthrough.specs.declared.Judgement.{Judgement}
 use Rattle.passthrough.specs.Judgements.{Judged, judgement, decided, judged}
-use Rattle.packets.specs.Given.{Awaits}
-use Rattle.packets.specs.Judged.{takenAs}
+use Rattle.packets.specs.Awaited.{Awaits, takenAs}
 
 -- "Valid: 31 bytes .."
 valid-length : (p : List ℕ) → valid p ≡ true → length p ≡ 31
@@ -40,16 +39,16 @@ block-part p h = take-all 16 (drop 15 p) (rw length-drop (omega arith))
 block-length : (p : List ℕ) → length p ≡ 31 → length (blockOf p) ≡ 16
 block-length p h = rw length-drop (omega arith)
 
-module _ (b : Bridge) (p room : List ℕ) (a : Awaits b) where
+module _ (b : Bridge) (signature : ℕ) (p room : List ℕ) (a : Awaits b) where
   -- the checks that are left of a packet that is awaited
-  left-checks : packetAnswer b p (length (operationsFor b p)) (length room)
-      ≡ first (13 if not (valid p) ∷ 14 if not (meaningful (commandOf p)) ∷ 15 if ltb (length room) (length (operationsFor b p)) ∷ [])
+  left-checks : packetAnswer b p (length (operationsFor signature p)) (length room)
+      ≡ first (13 if not (valid p) ∷ 14 if not (meaningful (commandOf p)) ∷ 15 if ltb (length room) (length (operationsFor signature p)) ∷ [])
   unfolding packetAnswer
   left-checks = rw (a .configured, a .awaits, a .runs)
 
   module _ {r : Bool} (v : r ≡ valid p) where
-    pub not-valid : not r ≡ true → Told b (Packet p) room 13 0 false (stop b) room
-    not-valid h = packet-refused b p room 13 (left-checks ∙ rw (sym v ∙ not-true r h)) refl
+    pub not-valid : not r ≡ true → ToldOf b signature (Packet p) room 13 0 Stops room
+    not-valid h = packet-refused b signature p room 13 (left-checks ∙ rw (sym v ∙ not-true r h)) refl
 
     module _ (h : not r ≡ false) {c : CommandPacket} {t : Bool} (is : c ≡ commandOf p) (m : t ≡ meaningful c) where
       good : valid p ≡ true
@@ -58,24 +57,24 @@ module _ (b : Bridge) (p room : List ℕ) (a : Awaits b) where
       means : meaningful (commandOf p) ≡ t
       means = rw (← is) (sym m)
 
-      pub not-meaningful : not t ≡ true → Told b (Packet p) room 14 0 false (stop b) room
-      not-meaningful n = packet-refused b p room 14 (left-checks ∙ rw (good, means ∙ not-true t n)) refl
+      pub not-meaningful : not t ≡ true → ToldOf b signature (Packet p) room 14 0 Stops room
+      not-meaningful n = packet-refused b signature p room 14 (left-checks ∙ rw (good, means ∙ not-true t n)) refl
 
       -- the operations of its block, if they are made
       abbrev made : List ℕ
       made = codes (operationsOf (blockOf p) (commandOf p .length) (directionOf (commandOf p)))
 
-      by-judgement : not t ≡ false → (known short : Bool) → recognises b p ≡ known → ltb (length room) (length made) ≡ short
-          → (let j : Judged = decided known short made room in Answers b (Packet p) room (takenAs (j .says) (commandOf p) b) (j .row))
-      by-judgement n true true k s = packet-refused b p room 15 (left-checks ∙ rw (good, means ∙ not-false t n, k, s)) refl
-      by-judgement n true false k s = rw k at (packet-done b p room (left-checks ∙ rw (good, means ∙ not-false t n, k, s)))
+      by-judgement : not t ≡ false → (known short : Bool) → recognises signature p ≡ known → ltb (length room) (length made) ≡ short
+          → (let j : Judged = decided known short made room in AnswersOf b signature (Packet p) room (takenAs (j .says) (commandOf p)) (j .row))
+      by-judgement n true true k s = packet-refused b signature p room 15 (left-checks ∙ rw (good, means ∙ not-false t n, k, s)) refl
+      by-judgement n true false k s = rw k at (packet-done b signature p room (left-checks ∙ rw (good, means ∙ not-false t n, k, s)))
       by-judgement n false short k s =
-          rw k at (packet-done b p room (left-checks ∙ rw (good, means ∙ not-false t n, k, le-ltb (length room) 0 (omega arith))))
+          rw k at (packet-done b signature p room (left-checks ∙ rw (good, means ∙ not-false t n, k, le-ltb (length room) 0 (omega arith))))
 
       -- what the judgement of its block makes of a meaningful packet
       pub taken-so : not t ≡ false → {block : List ℕ} {d : Direction} {j : Judgement} {now : List ℕ} → block ≡ blockOf p → d ≡ directionOf c
-          → judgement j now ≡ judged (byte 0x04 (b .bytes)) block (c .«block_length») (c .length) d room
-          → Answers b (Packet p) room (takenAs j c b) now
+          → judgement j now ≡ judged signature block (c .«block_length») (c .length) d room
+          → AnswersOf b signature (Packet p) room (takenAs j c) now
       taken-so n part e j =
           rw (ap (λ (x : Judged). x .says) j, ap (λ (x : Judged). x .row) j, e, is, part, block-length p (valid-length p good))
-          (by-judgement n (recognises b p) (ltb (length room) (length made)) refl refl)
+          (by-judgement n (recognises signature p) (ltb (length room) (length made)) refl refl)

@@ -1,22 +1,21 @@
-// Command packets: validity, meaning, direction, and what a packet makes of the bridge.
+// Command packets: validity, meaning, direction, and what a packet changes.
 ghost use mathlib.Core.Path.{_≡_};
 ghost use mathlib.Core.Bool.{true, false};
 ghost use lib.ListN.{length};
-ghost use Rattle.packets.specs.Given.{Awaits};
-ghost use Rattle.packets.specs.Judged.{takenAs};
-ghost use Rattle.held.specs.Outcomes.{outcome, Answers};
+ghost use Rattle.packets.specs.Awaited.{Awaits, takenAs};
+ghost use Rattle.outcomes.specs.Outcomes.{outcome, AnswersOf};
 ghost use Rattle.rules.specs.Step.{Packet};
-ghost use Rattle.rules.specs.Stopping.{stop};
 ghost use Rattle.rules.specs.Packets.{commandLayout, commandOf, valid, meaningful, directionOf, commandTaken};
-use held::Outcome;
-use held::out_of_turn;
-use held::refused;
+use outcomes::Outcome;
+use outcomes::done;
+use outcomes::refused;
 use passthrough::Judgement;
 use rules::Bridge;
+use rules::Change;
 use rules::CommandPacket;
 use rules::Direction;
 use rules::Phase;
-use rules::Status;
+use rules::StatusPacket;
 use rules::answers;
 
 fn is_valid(packet: &[u8]) -> bool
@@ -54,120 +53,102 @@ fn is_meaningful(c: CommandPacket) -> bool
 fn direction_of(c: CommandPacket) -> Direction
     ensures { λ r. ⌜ r ≡ directionOf c ⌝ }
 {
-    if c.length == 0 {
-        return Direction::None;
-    }
-    if c.flags == 0x80 {
+    if (c.length > 0) & (c.flags == 0x80) {
         Direction::In
     } else {
         Direction::Out
     }
 }
 
-fn busy(c: CommandPacket, b: Bridge) -> Bridge
-    ensures { λ r. ⌜ r ≡ commandTaken true c b ⌝ }
+fn begun(c: CommandPacket) -> Change
+    ensures { λ r. ⌜ r ≡ commandTaken true c ⌝ }
 {
-    held::in_phase(
-        Phase::Busy {
-            tag: c.tag,
-            length: c.length,
-            direction: direction_of(c),
-        },
-        b,
-    )
-}
-
-// A block that is not recognised fails at once, and the pipe of its direction is halted.
-fn failed(c: CommandPacket, b: Bridge) -> Bridge
-    ensures { λ r. ⌜ r ≡ commandTaken false c b ⌝ }
-{
-    let waiting = held::in_phase(
-        Phase::StatusWaiting {
-            tag: c.tag,
-            residue: c.length,
-            status: Status::Failed,
-        },
-        b,
-    );
-    held::halt(direction_of(c), waiting)
-}
-
-// What the judgement of its block makes of a meaningful packet.
-fn taken(judgement: Judgement, c: CommandPacket, b: Bridge) -> Outcome
-    ensures { λ r. ⌜ r ≡ takenAs judgement c b ⌝ }
-{
-    match judgement {
-        Judgement::Unrecognised => held::done(failed(c, b)),
-        Judgement::NoRoom => refused(answers::OPERATION_ROOM, b),
-        Judgement::Made(count) => Outcome {
-            answer: answers::DONE,
-            count: count,
-            kept: false,
-            bridge: busy(c, b),
-        },
+    Change::Begins {
+        direction: direction_of(c),
+        tag: c.tag,
+        length: c.length,
     }
 }
 
-// Both pipes halted, and no Mass Storage Reset yet.
-fn stopped(answer: u8, b: Bridge) -> Outcome
-    ensures { λ r. ⌜ r ≡ outcome answer 0 false (stop b) ⌝ }
+// A block that is not recognised fails at once, and the pipe of its direction is halted.
+fn failed(c: CommandPacket) -> Change
+    ensures { λ r. ⌜ r ≡ commandTaken false c ⌝ }
+{
+    Change::Finishes {
+        direction: direction_of(c),
+        halts: c.length > 0,
+        status: StatusPacket::FAILED,
+        tag: c.tag,
+        residue: c.length,
+    }
+}
+
+// What the judgement of its block makes of a meaningful packet.
+fn taken(judgement: Judgement, c: CommandPacket) -> Outcome
+    ensures { λ r. ⌜ r ≡ takenAs judgement c ⌝ }
+{
+    match judgement {
+        Judgement::Unrecognised => done(0, failed(c)),
+        Judgement::NoRoom => refused(answers::OPERATION_ROOM),
+        Judgement::Made(count) => done(count, begun(c)),
+    }
+}
+
+fn stopped(answer: u8) -> Outcome
+    ensures { λ r. ⌜ r ≡ outcome answer 0 Change.Stops ⌝ }
 {
     Outcome {
         answer: answer,
         count: 0,
-        kept: false,
-        bridge: held::in_phase(Phase::Stopped { reset: false }, held::halted(true, true, b)),
+        change: Change::Stops,
     }
 }
 
-// A command packet that the bridge awaits: its block is the part that starts at byte 15.
-fn awaited(b: Bridge, packet: &[u8], operations: &mut [u16]) -> Outcome
-    requires { ⌜ Awaits b ⌝ }
-    ensures { λ r. ⌜ Answers b (Packet (now (packet .entry))) (now (operations .entry)) r (now (operations .exit)) ⌝ }
+// A command packet that a bridge awaits: its block is the part that starts at byte 15.
+fn awaited(signature: u8, packet: &[u8], operations: &mut [u16]) -> Outcome
+    ensures { λ r. ⌜ ((b : Bridge) → Awaits b → AnswersOf b signature (Packet (now (packet .entry))) (now (operations .entry)) r (now (operations .exit))) ⌝ }
 {
     if !is_valid(packet) {
-        return stopped(answers::NOT_VALID, b);
+        return stopped(answers::NOT_VALID);
     }
     let c = command_of(packet);
     if !is_meaningful(c) {
-        return stopped(answers::NOT_MEANINGFUL, b);
+        return stopped(answers::NOT_MEANINGFUL);
     }
-    let bytes = b.bytes;
     let judgement = passthrough::judge(
         &packet[15..CommandPacket::LENGTH],
         c.block_length,
         c.length,
         direction_of(c),
-        bytes[0x04],
+        signature,
         operations,
     );
-    taken(judgement, c, b)
+    taken(judgement, c)
 }
 
-pub fn packet(b: Bridge, packet: &[u8], operations: &mut [u16]) -> Outcome
-    ensures { λ r. ⌜ Answers b (Packet (now (packet .entry))) (now (operations .entry)) r (now (operations .exit)) ⌝ }
+// `signature` is configuration byte 0x04.
+pub fn packet(b: Bridge, signature: u8, packet: &[u8], operations: &mut [u16]) -> Outcome
+    ensures { λ r. ⌜ AnswersOf b signature (Packet (now (packet .entry))) (now (operations .entry)) r (now (operations .exit)) ⌝ }
 {
     if !b.configured {
-        return refused(answers::UNCONFIGURED, b);
+        return refused(answers::UNCONFIGURED);
     }
     let phase = b.phase;
+    if outcomes::is_stopped(phase) | b.halts.outward {
+        return refused(answers::HALTED);
+    }
     match phase {
-        Phase::Awaiting => {
-            if b.halts.outward {
-                return refused(answers::HALTED, b);
-            }
-            awaited(b, packet, operations)
-        }
+        Phase::Awaiting => awaited(signature, packet, operations),
         Phase::Busy {
+            direction: _,
             tag: _,
             length: _,
-            direction: _,
         }
         | Phase::StatusWaiting {
             tag: _,
             residue: _,
             status: _,
         }
-        | Phase::Stopped { reset: _ } => refused(out_of_turn(phase, b.halts.outward), b),
+        | Phase::Stopped { reset: _ } => refused(answers::WRONG_PHASE),
     }
 }

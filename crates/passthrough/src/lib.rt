@@ -9,7 +9,7 @@ ghost use lib.ListN.{length};
 ghost use Rattle.passthrough.specs.Rows.{Put, Fits, rising, accesses};
 ghost use Rattle.passthrough.specs.Judgements.{judgement, judged};
 ghost use Rattle.rules.specs.Words.{byte, bit as bitTest, bitOf, laid};
-ghost use Rattle.rules.specs.Packets.{inward, readable, recognised};
+ghost use Rattle.rules.specs.Packets.{readable, recognised};
 ghost use Rattle.rules.specs.Operations.{Operation, Poll, Transfer, coded, code, codes, only, withBit4, transferByte, selects, commanded, writeBlock, readBlock, operationsOf};
 use rules::Direction;
 
@@ -85,16 +85,6 @@ fn if_set(byte: u8, k: u8, value: u8) -> u8
     if is_set(byte, k) { value } else { 0 }
 }
 
-fn is_in(direction: Direction) -> bool
-    ensures { λ r. ⌜ r ≡ inward direction ⌝ }
-{
-    match direction {
-        Direction::None => false,
-        Direction::In => true,
-        Direction::Out => false,
-    }
-}
-
 // What a block that reads registers must be.
 fn is_readable(action: u8, expected: u32, direction: Direction) -> bool
     ensures { λ r. ⌜ r ≡ readable action expected direction ⌝ }
@@ -102,7 +92,7 @@ fn is_readable(action: u8, expected: u32, direction: Direction) -> bool
     !is_set(action, P_ERROR_OVERRIDE)
         & !is_set(action, D_ERROR_OVERRIDE)
         & (expected == 8)
-        & is_in(direction)
+        & direction.is_in()
 }
 
 fn is_recognised(block: &[u8], size: u8, expected: u32, direction: Direction, signature: u8) -> bool
@@ -158,7 +148,7 @@ fn select_byte(action: u8, selection: u8, device: u8) -> u8
 fn transfer_byte(action: u8, direction: Direction) -> u8
     ensures { λ r. ⌜ r ≡ transferByte action direction ⌝ }
 {
-    is_in(direction) as u8
+    direction.is_in() as u8
         + 2 * bit(action, UDMA_COMMAND)
         + 4 * bit(action, D_ERROR_OVERRIDE)
         + 8 * bit(action, P_ERROR_OVERRIDE)

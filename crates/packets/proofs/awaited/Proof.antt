@@ -1,7 +1,7 @@
 -- `packets::awaited` meets its contract.
 use native.Mathlib.Omega.{arith}
-use borrow.Author.Needs.{needs}
 use Rattle.packets.proofs.Commands.{thirty-one, block-part, not-valid, not-meaningful, taken-so}
+use borrow.Author.Needs.{needs}
 use Rattle.packets.proofs.awaited.Statement.{statement}
 use Rattle.packets.proofs.awaited.Tie as tie
 
@@ -13,8 +13,8 @@ stopped-requires c κs = search needs
 
 returns : tie.Need-returns
 returns c =
-    let start = c .before .before .before .before .before in
-    rw (c .stopped .ensures) (not-valid (start .args .b) (start .args .packet .now) (start .args .operations .now) (start .pre) (c .before .before .is-valid .ensures) (c .before .if1 .taken))
+    let at = c .before .before .before .before .before .args in
+    λ b a. rw (c .stopped .ensures) (not-valid b (at .signature) (at .packet .now) (at .operations .now) a (c .before .before .is-valid .ensures) (c .before .if1 .taken))
 
 command-of-requires : tie.Need-command-of-requires
 command-of-requires c κs = thirty-one (c .before .before .before .before .args .packet .now) (c .before .is-valid .ensures) (c .if1 .left)
@@ -27,13 +27,9 @@ stopped-requires-2 c κs = search needs
 
 returns-2 : tie.Need-returns-2
 returns-2 c =
-    let is-valid = c .before .before .before .before .before .is-valid in
-    let if1 = c .before .before .before .before .if1 in
-    let command-of = c .before .before .before .command-of in
-    let is-meaningful = c .before .before .is-meaningful in
-    let start = c .before .before .before .before .before .before .before .before in
-    rw (c .stopped2 .ensures)
-    (not-meaningful (start .args .b) (start .args .packet .now) (start .args .operations .now) (start .pre) (is-valid .ensures) (if1 .left) (command-of .ensures) (is-meaningful .ensures) (c .before .if2 .taken))
+    let at = c .before .before .before .before .before .before .before .before .args in
+    λ b a. rw (c .stopped2 .ensures)
+    (not-meaningful b (at .signature) (at .packet .now) (at .operations .now) a (c .before .before .before .before .before .is-valid .ensures) (c .before .before .before .before .if1 .left) (c .before .before .before .command-of .ensures) (c .before .before .is-meaningful .ensures) (c .before .if2 .taken))
 
 sub-judge : tie.Need-sub-judge
 sub-judge c = search needs
@@ -42,13 +38,10 @@ part-judge-start : tie.Need-part-judge-start
 part-judge-start c = search needs
 
 part-judge-end : tie.Need-part-judge-end
-part-judge-end c = omega (arith, thirty-one (c .before .before .before .before .before .before .before .before .args .packet .now) (c .before .before .before .before .before .is-valid .ensures) (c .before .before .before .before .if1 .left))
+part-judge-end c = omega (arith, thirty-one (c .before .before .before .before .before .before .before .args .packet .now) (c .before .before .before .before .is-valid .ensures) (c .before .before .before .if1 .left))
 
 direction-of-requires : tie.Need-direction-of-requires
 direction-of-requires c κs = search needs
-
-array-read-judge : tie.Need-array-read-judge
-array-read-judge c = search needs
 
 judge-requires : tie.Need-judge-requires
 judge-requires c κs = search needs
@@ -61,18 +54,11 @@ same-length c = search needs
 
 returns-3 : tie.Need-returns-3
 returns-3 c =
-    let is-valid = c .before .before .before .before .before .before .before .before .before .before .before .before .is-valid in
-    let if1 = c .before .before .before .before .before .before .before .before .before .before .before .if1 in
-    let command-of = c .before .before .before .before .before .before .before .before .before .before .command-of in
-    let is-meaningful = c .before .before .before .before .before .before .before .before .before .is-meaningful in
-    let if2 = c .before .before .before .before .before .before .before .before .if2 in
-    let direction-of = c .before .before .before .before .before .direction-of in
-    let judge = c .before .before .before .judge in
-    let start = c .before .before .before .before .before .before .before .before .before .before .before .before .before .before .before in
-    let p = start .args .packet .now in
-    let part = block-part p (thirty-one p (is-valid .ensures) (if1 .left)) in
-    rw (c .taken .ensures)
-    (taken-so (start .args .b) p (start .args .operations .now) (start .pre) (is-valid .ensures) (if1 .left) (command-of .ensures) (is-meaningful .ensures) (if2 .left) part (direction-of .ensures) (judge .ensures))
+    let at = c .before .before .before .before .before .before .before .before .before .before .before .before .before .before .args in
+    let p = at .packet .now in
+    let part = block-part p (thirty-one p (c .before .before .before .before .before .before .before .before .before .before .before .is-valid .ensures) (c .before .before .before .before .before .before .before .before .before .before .if1 .left)) in
+    λ b a. rw (c .taken .ensures)
+    (taken-so b (at .signature) p (at .operations .now) a (c .before .before .before .before .before .before .before .before .before .before .before .is-valid .ensures) (c .before .before .before .before .before .before .before .before .before .before .if1 .left) (c .before .before .before .before .before .before .before .before .before .command-of .ensures) (c .before .before .before .before .before .before .before .before .is-meaningful .ensures) (c .before .before .before .before .before .before .before .if2 .left) part (c .before .before .before .before .before .direction-of .ensures) (c .before .before .before .judge .ensures))
 
 pub awaited-spec : {M : Type 1} → statement M
 awaited-spec =
@@ -89,7 +75,6 @@ awaited-spec =
     part-judge-start
     part-judge-end
     direction-of-requires
-    array-read-judge
     judge-requires
     taken-requires
     same-length

@@ -1,9 +1,9 @@
 -- `packets::packet` meets its contract.
-use Rattle.held.proofs.Phases.{none-awaits}
-use Rattle.rules.proofs.Promises.{packet-refused, packet-untimely}
-use Rattle.rules.specs.Answers.{packetAnswer}
-use borrow.Author.Tests.{not-true, not-false}
 use mathlib.Core.Path.{refl}
+use borrow.Author.Tests.{not-true, not-false}
+use Rattle.rules.specs.Answers.{packetAnswer}
+use Rattle.rules.proofs.Promises.{packet-refused}
+use Rattle.outcomes.proofs.Phases.{none-awaits, neither}
 use borrow.Author.Needs.{needs}
 use Rattle.packets.proofs.packet.Statement.{statement}
 use Rattle.packets.proofs.packet.Tie as tie
@@ -13,28 +13,26 @@ refused-requires c κs = search needs
 
 returns : tie.Need-returns
 unfolding packetAnswer
-returns c = rw (c .refused .ensures) (packet-refused _ _ _ 4 (rw (not-true (c .before .before .before .before .before .args .b .configured) (c .before .if1 .taken))) refl)
+returns c = rw (c .refused .ensures) (packet-refused _ _ _ _ 4 (rw (not-true (c .before .before .before .before .before .args .b .configured) (c .before .if1 .taken))) refl)
 
-enum-told : tie.Need-enum-told
-enum-told c = search needs
+is-stopped-requires : tie.Need-is-stopped-requires
+is-stopped-requires c κs = search needs
 
 refused-requires-2 : tie.Need-refused-requires-2
 refused-requires-2 c κs = search needs
 
 returns-2 : tie.Need-returns-2
 unfolding packetAnswer
-returns-2 c = rw (c .refused2 .ensures) (packet-refused _ _ _ 11 (rw (not-false (c .before .before .before .before .before .before .before .before .args .b .configured) (c .before .before .before .before .if1 .left), c .before .before .enum-told .given .1, c .before .if2 .taken)) refl)
+returns-2 c =
+    let b = c .before .before .before .before .before .before .before .before .args .b in
+    rw (c .refused2 .ensures)
+    (packet-refused _ _ _ _ 11 (rw (not-false (b .configured) (c .before .before .before .before .if1 .left), ← c .before .before .before .is-stopped .ensures, c .before .if2 .taken)) refl)
+
+enum-told : tie.Need-enum-told
+enum-told c = search needs
 
 awaited-requires : tie.Need-awaited-requires
-awaited-requires c κs =
-    record {
-      configured = not-false (c .before .before .before .before .before .before .before .before .args .b .configured) (c .before .before .before .before .if1 .left);
-      runs = c .before .if2 .left;
-      awaits = c .before .before .enum-told .given .1;
-    }
-
-out-of-turn-requires : tie.Need-out-of-turn-requires
-out-of-turn-requires c κs = search needs
+awaited-requires c κs = search needs
 
 refused-requires-3 : tie.Need-refused-requires-3
 refused-requires-3 c κs = search needs
@@ -43,12 +41,22 @@ same-length : tie.Need-same-length
 same-length c = search needs
 
 returns-3 : tie.Need-returns-3
-returns-3 c = search needs
+returns-3 c =
+    let b = c .before .before .before .before .before .before .before .before .before .before .before .before .before .args .b in
+    c .before .before .awaited .ensures b
+    (record {
+      configured = not-false (b .configured) (c .before .before .before .before .before .before .before .before .before .if1 .left);
+      runs = neither (c .before .before .before .before .before .before .before .before .is-stopped .result) (b .halts .outward) (c .before .before .before .before .before .before .if2 .left) .1;
+      awaits = c .before .before .before .before .enum-told .given .1;
+    })
 
 returns-4 : tie.Need-returns-4
+unfolding packetAnswer
 returns-4 c =
-    let b = c .before .before .before .before .before .before .before .args .b in
-    rw (c .refused3 .ensures) (packet-untimely b (not-false (b .configured) (c .before .before .before .if1 .left)) _ _ (none-awaits (b .phase) (c .before .before .match .keys2)) (c .before .out-of-turn .ensures))
+    let b = c .before .before .before .before .before .before .before .before .before .args .b in
+    rw (c .refused3 .ensures)
+    (packet-refused _ _ _ _ 16
+    (rw (not-false (b .configured) (c .before .before .before .before .before .if1 .left), ← c .before .before .before .before .is-stopped .ensures, c .before .before .if2 .left, none-awaits (b .phase) (c .before .match .keys2))) refl)
 
 pub packet-spec : {M : Type 1} → statement M
 packet-spec =
@@ -56,11 +64,11 @@ packet-spec =
     (tie.spec
     refused-requires
     returns
-    enum-told
+    is-stopped-requires
     refused-requires-2
     returns-2
+    enum-told
     awaited-requires
-    out-of-turn-requires
     refused-requires-3
     same-length
     returns-3

@@ -21,17 +21,20 @@ refused-requires c κs = search needs
 enum-known-judgement : tie.Need-enum-known-judgement
 enum-known-judgement c = search needs
 
-busy-requires : tie.Need-busy-requires
-busy-requires c κs = search needs
+begun-requires : tie.Need-begun-requires
+begun-requires c κs = search needs
+
+done-requires-2 : tie.Need-done-requires-2
+done-requires-2 c κs = search needs
 
 returns : tie.Need-returns
-returns c = rw (c .done .ensures, c .before .failed .ensures, c .before .before .enum-told .given .1)
+returns c = rw (c .before .before .enum-told .given .1, c .done .ensures, c .before .failed .ensures)
 
 returns-2 : tie.Need-returns-2
-returns-2 c = rw (c .refused .ensures, c .before .enum-told2 .given .1)
+returns-2 c = rw (c .before .enum-told2 .given .1, c .refused .ensures)
 
 returns-3 : tie.Need-returns-3
-returns-3 c = rw (c .busy .ensures, c .before .before .judgement .given .1)
+returns-3 c = rw (c .before .before .before .judgement .given .1, c .done2 .ensures, c .before .begun .ensures)
 
 pub taken-spec : {M : Type 1} → statement M
 taken-spec =
@@ -43,7 +46,8 @@ taken-spec =
     enum-told-2
     refused-requires
     enum-known-judgement
-    busy-requires
+    begun-requires
+    done-requires-2
     returns
     returns-2
     returns-3)
