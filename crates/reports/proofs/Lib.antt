@@ -1,1 +1,2 @@
+mod Mismatches
 pub mod Unique

@@ -4,9 +4,9 @@ use mathlib.Core.List.{[]}
 use Prim.Native.Nat.{ℕ}
 use Rattle.rules.specs.declared.Bridge.{Bridge}
 use Rattle.rules.specs.Step.{Report}
-use Rattle.held.specs.declared.Outcome.{Outcome}
-use Rattle.held.specs.Outcomes.{Answers}
-use Rattle.held.proofs.Unique.{told}
+use Rattle.outcomes.specs.declared.Outcome.{Outcome}
+use Rattle.outcomes.specs.Outcomes.{Answers}
+use Rattle.outcomes.proofs.Unique.{told}
 
 pub report : (b : Bridge) (direction failed amount : ℕ) (o o' : Outcome) → Answers b (λ n. Report direction failed amount) [] o []
     → Answers b (λ n. Report direction failed amount) [] o' [] → o ≡ o'

@@ -4,9 +4,9 @@ use mathlib.Core.List.{List}
 use Prim.Native.Nat.{ℕ}
 use Rattle.rules.specs.declared.Bridge.{Bridge}
 use Rattle.rules.specs.Step.{StatusRequest}
-use Rattle.held.specs.declared.Outcome.{Outcome}
-use Rattle.held.specs.Outcomes.{Answers}
-use Rattle.held.proofs.Unique.{told}
+use Rattle.outcomes.specs.declared.Outcome.{Outcome}
+use Rattle.outcomes.specs.Outcomes.{Answers}
+use Rattle.outcomes.proofs.Unique.{told}
 
 pub status : (b : Bridge) (reply : List ℕ) (o o' : Outcome) (now now' : List ℕ)
     → Answers b StatusRequest reply o now → Answers b StatusRequest reply o' now' → (o ≡ o') × (now ≡ now')

@@ -4,10 +4,10 @@ use Prim.Native.Nat.{_≤_}
 use native.Mathlib.Omega.{arith}
 use lib.ListN.{length}
 use borrow.Author.Tests.{lt-ltb, le-ltb}
-use borrow.Author.Needs.{needs}
-use Rattle.lent.proofs.Laws.{to-front}
 use Rattle.rules.specs.Answers.{statusAnswer}
+use Rattle.rules.proofs.Rows.{over-laid}
 use Rattle.rules.proofs.Promises.{status-refused, status-done}
+use borrow.Author.Needs.{needs}
 use Rattle.statuses.proofs.handed_out.Statement.{statement}
 use Rattle.statuses.proofs.handed_out.Tie as tie
 
@@ -16,7 +16,7 @@ refused-requires c κs = search needs
 
 returns : tie.Need-returns
 unfolding statusAnswer
-returns c = rw (c .refused .ensures) (status-refused _ _ 3 (rw (c .before .before .before .pre .configured, c .before .before .before .pre .waits, c .before .before .before .pre .runs, lt-ltb _ _ (c .before .if1 .taken))) refl)
+returns c = λ b w. rw (c .refused .ensures) (status-refused b _ 3 (rw (w .configured, w .waits, w .runs, lt-ltb _ _ (c .before .if1 .taken))) refl)
 
 packet-of-requires : tie.Need-packet-of-requires
 packet-of-requires c κs = search needs
@@ -27,11 +27,11 @@ slice-aggregate-copy c = search needs
 copy-requires : tie.Need-copy-requires
 copy-requires c κs = search needs
 
-cast-t13 : tie.Need-cast-t13
-cast-t13 c = search needs
+cast-done : tie.Need-cast-done
+cast-done c = search needs
 
-in-phase-requires : tie.Need-in-phase-requires
-in-phase-requires c κs = search needs
+done-requires : tie.Need-done-requires
+done-requires c κs = search needs
 
 same-length : tie.Need-same-length
 same-length c = search needs
@@ -39,13 +39,11 @@ same-length c = search needs
 returns-2 : tie.Need-returns-2
 unfolding statusAnswer
 returns-2 c =
-    let start = c .before .before .before .before .before .before .before .before .before in
-    let if1 = c .before .before .before .before .before .before .before .if1 in
-    let packet-of = c .before .before .before .before .before .before .packet-of in
-    let copy = c .before .before .before .copy in
-    let fits : length (packet-of .result) ≤ length (start .args .reply .now) = rw (packet-of .ensures) (omega arith) in
-    rw (c .in-phase .ensures, copy .ensures ∙ to-front (start .args .reply .now) (packet-of .result) fits, packet-of .ensures)
-    (status-done (start .args .b) (start .args .reply .now) _ _ _ (start .pre .waits) (rw (start .pre .configured, start .pre .waits, start .pre .runs, le-ltb _ _ (if1 .left))))
+    let at = c .before .before .before .before .before .before .before .before .before .args in
+    let packet = c .before .before .before .before .before .before .packet-of in
+    let fits : length (packet .result) ≤ length (at .reply .now) = rw (packet .ensures) (omega arith) in
+    λ b w. rw (c .done .ensures, c .before .before .before .copy .ensures ∙ over-laid (at .reply .now) (packet .result) fits, packet .ensures)
+    (status-done b (at .reply .now) _ _ _ (w .waits) (rw (w .configured, w .waits, w .runs, le-ltb _ _ (c .before .before .before .before .before .before .before .if1 .left))))
 
 pub handed-out-spec : {M : Type 1} → statement M
 handed-out-spec =
@@ -56,7 +54,7 @@ handed-out-spec =
     packet-of-requires
     slice-aggregate-copy
     copy-requires
-    cast-t13
-    in-phase-requires
+    cast-done
+    done-requires
     same-length
     returns-2)

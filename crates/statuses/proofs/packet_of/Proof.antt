@@ -1,4 +1,5 @@
 -- `statuses::packet_of` meets its contract.
+use Rattle.rules.specs.Words.{over}
 use borrow.Author.Needs.{needs}
 use Rattle.statuses.proofs.packet_of.Statement.{statement}
 use Rattle.statuses.proofs.packet_of.Tie as tie
@@ -39,21 +40,12 @@ slice-aggregate-copy-6 c = search needs
 copy-requires-3 : tie.Need-copy-requires-3
 copy-requires-3 c κs = search needs
 
-number-requires : tie.Need-number-requires
-number-requires c κs = search needs
-
 array-write-packet : tie.Need-array-write-packet
 array-write-packet c = search needs
 
 returns : tie.Need-returns
-returns c =
-    let bytes-of = c .before .before .before .before .before .before .before .before .before .before .before .before .before .before .bytes-of in
-    let copy = c .before .before .before .before .before .before .before .before .before .before .before .before .copy in
-    let bytes-of2 = c .before .before .before .before .before .before .before .before .before .bytes-of2 in
-    let copy2 = c .before .before .before .before .before .before .before .copy2 in
-    let bytes-of3 = c .before .before .before .before .bytes-of3 in
-    let copy3 = c .before .before .copy3 in
-    rw (copy3 .ensures, bytes-of3 .ensures, copy2 .ensures, bytes-of2 .ensures, copy .ensures, bytes-of .ensures, c .number .ensures)
+unfolding over
+returns c = rw (c .before .copy3 .ensures, c .before .before .before .bytes-of3 .ensures, c .before .before .before .before .before .before .copy2 .ensures, c .before .before .before .before .before .before .before .before .bytes-of2 .ensures, c .before .before .before .before .before .before .before .before .before .before .before .copy .ensures, c .before .before .before .before .before .before .before .before .before .before .before .before .before .bytes-of .ensures)
 
 pub packet-of-spec : {M : Type 1} → statement M
 packet-of-spec =
@@ -71,6 +63,5 @@ packet-of-spec =
     bytes-of-requires-3
     slice-aggregate-copy-6
     copy-requires-3
-    number-requires
     array-write-packet
     returns)

@@ -1,4 +1,4 @@
--- What a private function is given.
+-- The bridge in which a status packet waits.
 use mathlib.Core.Path.{_≡_}
 use mathlib.Core.Bool.{true, false}
 use Rattle.rules.specs.declared.Bridge.{Bridge}
