@@ -1,3 +1,3 @@
-pub mod Laws
-pub mod RoundTrip
+mod Laws
+pub mod StandsForIt
 pub mod Unique

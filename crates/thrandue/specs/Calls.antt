@@ -1,18 +1,16 @@
 -- What an exported call leaves and returns, as one equation with the rules.
 use Prim.Native.Nat.{ℕ, _+_, _*_}
 use mathlib.Core.Path.{_≡_}
-use mathlib.Core.Bool.{Bool, cond}
-use mathlib.Core.List.{List, []}
-use lib.ListN.{length, replicate}
-use lib.Dec.{eqb}
+use mathlib.Core.List.{List, _++_}
+use lib.ListN.{length, drop}
 use Rattle.rules.specs.declared.Bridge.{Bridge}
 use Rattle.rules.specs.declared.Phase.{Phase}
 use Rattle.rules.specs.declared.Phase.the-variants.{Awaiting, Busy, StatusWaiting, Stopped}
 use Rattle.rules.specs.Words.{one}
-use Rattle.rules.specs.Held.{world, powerOn}
-use Rattle.rules.specs.Step.{Event}
+use Rattle.rules.specs.Held.{World}
+use Rattle.rules.specs.Step.{Event, change, step}
 use Rattle.rules.specs.Promise.{Left, leaves}
-use Rattle.thrandue.specs.Image.{imageLength, encode, decode, Sized}
+use Rattle.image.specs.Image.{worldOf, put, Sized}
 
 -- the number that a call returns, the image, the memory, and the lent room
 pub record Called : Type 0 where
@@ -24,47 +22,27 @@ pub record Called : Type 0 where
 abbrev pub called : ℕ → List ℕ → List ℕ → List ℕ → Called
 called returned image memory room = record { returned = returned; image = image; memory = memory; room = room }
 
--- the answer in the low byte, the count of what was handed out above it; 255 where the image has another length
-abbrev pub returns : Bool → ℕ → ℕ → ℕ
-returns fits answer count = cond fits (answer + 256 * count) 255
+-- the answer in the low byte, the count of what was handed out above it
+abbrev pub returns : ℕ → ℕ → ℕ
+returns answer count = answer + 256 * count
 
--- a call that keeps the bridge, as every refused one does, leaves the image byte for byte
-abbrev pub imageLeft : Bool → Bool → Bridge → List ℕ → List ℕ
-imageLeft fits kept next image = cond fits (cond kept image (encode image next)) image
-
--- what a call makes of an image, a memory, an event and the room that is lent to it
+-- what a call makes of an image, a memory, an event and the room that is lent to it: the image with the configuration bytes written and the change
+-- made, so that a refused call, which writes and changes nothing, leaves it byte for byte
 abbrev pub calls : List ℕ → List ℕ → (ℕ → Event) → List ℕ → Called
 calls image memory event room =
-    let fits : Bool = eqb (length image) imageLength in
-    let l : Left = leaves (world (decode image) memory) event room in
-    called (returns fits (l .answer) (l .count)) (imageLeft fits (l .kept) (l .bridge) image) (cond fits (l .memory) memory) (cond fits (l .room) room)
+    let l : Left = leaves (worldOf image memory) event room in
+    called (returns (l .answer) (l .count)) (put (l .change) (l .bytes ++ drop 16 image)) (l .memory) (l .room)
 
 -- a call that is lent no memory: with every memory, and it leaves it as it is
 abbrev pub Told : List ℕ → (ℕ → Event) → List ℕ → ℕ → List ℕ → List ℕ → Type 0
-Told image event room returned image' room' = (m : List ℕ) → called returned image' m room' ≡ calls image m event room
+Told image event room returned image' room' = (memory : List ℕ) → called returned image' memory room' ≡ calls image memory event room
 
--- power-on: whatever the image held, it is now that of a bridge at power-on, the rest of it zeros
-abbrev pub powers : List ℕ → Called
-powers image =
-    let fits : Bool = eqb (length image) imageLength in
-    called (returns fits 0 0) (cond fits (encode (replicate imageLength 0) powerOn) image) [] []
-
--- the image that a call leaves stands for the bridge that the rules leave
-abbrev pub StandsForIt : Type 0
-StandsForIt =
-    (image memory : List ℕ) (event : ℕ → Event) (room : List ℕ) → length image ≡ imageLength
-    → (let l : Left = leaves (world (decode image) memory) event room in
-    Sized (l .bridge) → decode (calls image memory event room .image) ≡ l .bridge)
-
--- ---- readers of the image: a number of the state that it stands for; 255 where it has another length
-
-abbrev pub reads : (Bridge → ℕ) → List ℕ → ℕ
-reads f image = cond (eqb (length image) imageLength) (f (decode image)) 255
+-- ---- readers of the image
 
 -- 0 awaiting, 1 busy, 2 status waiting, 3 stopped, 4 stopped and a Mass Storage Reset has come
 abbrev pub numberOf : Phase → ℕ
 numberOf Awaiting = 0
-numberOf (Busy tag l direction) = 1
+numberOf (Busy direction tag l) = 1
 numberOf (StatusWaiting tag residue status) = 2
 numberOf (Stopped reset) = 3 + one reset
 
@@ -74,3 +52,13 @@ phaseNumber b = numberOf (b .phase)
 -- 1 for bulk out, and 2 for bulk in
 abbrev pub haltNumber : Bridge → ℕ
 haltNumber b = one (b .halts .outward) + 2 * one (b .halts .inward)
+
+-- ---- the image and the memory that a call leaves stand for the world that the rules leave, proved in proofs/StandsForIt
+
+abbrev pub StandsForIt : Type 0
+StandsForIt =
+    (image memory : List ℕ) (event : ℕ → Event) (room : List ℕ) → length image ≡ 29
+    → (let w : World = worldOf image memory in
+    let e : Event = event (length room) in
+    let c : Called = calls image memory event room in
+    Sized (change w e) → worldOf (c .image) (c .memory) ≡ step w e .next)

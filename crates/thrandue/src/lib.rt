@@ -1,43 +1,66 @@
 // The bridge for C: thin exported calls on numbers and lent bytes. host/thrandue.h is what a caller reads.
 ghost use mathlib.Core.Path.{_≡_};
-ghost use mathlib.Core.List.{[]};
-ghost use Rattle.rules.specs.Held.{configuration};
+ghost use mathlib.Core.List.{[], _++_};
+ghost use Prim.Native.Nat.{_≤_};
+ghost use lib.ListN.{length, drop};
+ghost use Rattle.outcomes.specs.Outcomes.{leftBy};
+ghost use Rattle.rules.specs.Held.{world, configuration};
+ghost use Rattle.rules.specs.Promise.{served};
 ghost use Rattle.rules.specs.Step.{BusReset, Control, Packet, Report, StatusRequest};
-ghost use Rattle.thrandue.specs.Calls.{called, calls, powers, Told, reads, phaseNumber, haltNumber};
-
-mod image;
-
+ghost use Rattle.image.specs.Image.{bytesOf, decode, powered, put};
+ghost use Rattle.thrandue.specs.Calls.{called, returns, calls, Told, phaseNumber, haltNumber};
+use bridge::Outcome;
+use image::IMAGE;
+use requests::Judgement;
 use rules::Bridge;
+use rules::Phase;
+use rules::Request;
+use rules::Setup;
+use rules::answers;
 
-// What a call returns where the image has another length.
-const NO_IMAGE: u8 = 255;
-
-#[no_mangle]
-pub extern "C" fn thrandue_power_on(image: &mut [u8]) -> u32
-    ensures { λ r. ⌜ called r (now (image .exit)) [] [] ≡ powers (now (image .entry)) ⌝ }
+// What an event leaves in the image and returns.
+fn leave(image: &mut [u8; IMAGE], o: Outcome) -> u32
+    ensures { λ r. ⌜ (r ≡ returns (o .answer) (o .count)) × (now (image .exit) ≡ put (o .change) (now (image .entry))) ⌝ }
 {
-    if image.len() != image::LENGTH {
-        return NO_IMAGE as u32;
-    }
-    lent::copy(image, 0, &[0u8; image::LENGTH]);
-    image::store(image, Bridge::power_on());
-    0
+    let change = o.change;
+    image::make(image, change);
+    o.answer as u32 + 256 * o.count as u32
+}
+
+// A granted request, with the configuration bytes at the front of the image.
+fn serve(
+    r: Request,
+    s: Setup,
+    b: Bridge,
+    image: &mut [u8],
+    host: &[u8],
+    memory: &mut [u8],
+    reply: &mut [u8],
+) -> Outcome
+    requires { ⌜ 16 ≤ length (now image) ⌝ }
+    ensures { λ o. ⌜ (leftBy o (bytesOf (now (image .exit))) (now (memory .exit)) (now (reply .exit)) ≡ served r s (now (host .entry)) (world b (bytesOf (now (image .entry))) (now (memory .entry))) (now (reply .entry))) × (now (image .exit) ≡ bytesOf (now (image .exit)) ++ drop 16 (now (image .entry))) ⌝ }
+{
+    bridge::serve(r, s, b, &mut image[0..16], host, memory, reply)
 }
 
 #[no_mangle]
-pub extern "C" fn thrandue_bus_reset(image: &mut [u8]) -> u32
+pub extern "C" fn thrandue_power_on(image: &mut [u8; IMAGE]) -> u32
+    ensures { λ r. ⌜ called r (now (image .exit)) [] [] ≡ called 0 powered [] [] ⌝ }
+{
+    image::power_on(image);
+    answers::DONE as u32
+}
+
+#[no_mangle]
+pub extern "C" fn thrandue_bus_reset(image: &mut [u8; IMAGE]) -> u32
     ensures { λ r. ⌜ Told (now (image .entry)) (λ n. BusReset) [] r (now (image .exit)) [] ⌝ }
 {
-    if image.len() != image::LENGTH {
-        return NO_IMAGE as u32;
-    }
-    let b = image::load(image);
-    image::leave_rest(image, bridge::bus_reset(b))
+    leave(image, bridge::bus_reset())
 }
 
 #[no_mangle]
 pub extern "C" fn thrandue_control(
-    image: &mut [u8],
+    image: &mut [u8; IMAGE],
     setup: &[u8],
     host: &[u8],
     memory: &mut [u8],
@@ -45,75 +68,86 @@ pub extern "C" fn thrandue_control(
 ) -> u32
     ensures { λ r. ⌜ called r (now (image .exit)) (now (memory .exit)) (now (reply .exit)) ≡ calls (now (image .entry)) (now (memory .entry)) (Control (now (setup .entry)) (now (host .entry))) (now (reply .entry)) ⌝ }
 {
-    if image.len() != image::LENGTH {
-        return NO_IMAGE as u32;
+    let configured = image::is_configured(image);
+    let judgement = requests::judge(configured, memory.len(), setup, host.len(), reply.len());
+    match judgement {
+        Judgement::Refused(answer) => answer as u32,
+        Judgement::Granted(r, s) => {
+            let b = image::load(image);
+            let o = serve(r, s, b, image, host, memory, reply);
+            leave(image, o)
+        }
     }
-    let b = image::load(image);
-    image::leave(image, bridge::control(b, setup, host, memory, reply))
 }
 
 #[no_mangle]
-pub extern "C" fn thrandue_packet(image: &mut [u8], packet: &[u8], operations: &mut [u16]) -> u32
+pub extern "C" fn thrandue_packet(
+    image: &mut [u8; IMAGE],
+    packet: &[u8],
+    operations: &mut [u16],
+) -> u32
     ensures { λ r. ⌜ Told (now (image .entry)) (Packet (now (packet .entry))) (now (operations .entry)) r (now (image .exit)) (now (operations .exit)) ⌝ }
 {
-    if image.len() != image::LENGTH {
-        return NO_IMAGE as u32;
-    }
     let b = image::load(image);
-    image::leave_rest(image, bridge::packet(b, packet, operations))
+    let signature = image::signature_of(image);
+    leave(image, bridge::packet(b, signature, packet, operations))
 }
 
 #[no_mangle]
-pub extern "C" fn thrandue_report(image: &mut [u8], direction: u8, failed: u8, amount: u32) -> u32
+pub extern "C" fn thrandue_report(
+    image: &mut [u8; IMAGE],
+    direction: u8,
+    failed: u8,
+    amount: u32,
+) -> u32
     ensures { λ r. ⌜ Told (now (image .entry)) (λ n. Report direction failed amount) [] r (now (image .exit)) [] ⌝ }
 {
-    if image.len() != image::LENGTH {
-        return NO_IMAGE as u32;
-    }
     let b = image::load(image);
-    image::leave_rest(image, bridge::report(b, direction, failed, amount))
+    leave(image, bridge::report(b, direction, failed, amount))
 }
 
 #[no_mangle]
-pub extern "C" fn thrandue_status(image: &mut [u8], reply: &mut [u8]) -> u32
+pub extern "C" fn thrandue_status(image: &mut [u8; IMAGE], reply: &mut [u8]) -> u32
     ensures { λ r. ⌜ Told (now (image .entry)) StatusRequest (now (reply .entry)) r (now (image .exit)) (now (reply .exit)) ⌝ }
 {
-    if image.len() != image::LENGTH {
-        return NO_IMAGE as u32;
-    }
     let b = image::load(image);
-    image::leave_rest(image, bridge::status(b, reply))
+    leave(image, bridge::status(b, reply))
 }
 
 #[no_mangle]
-pub extern "C" fn thrandue_phase(image: &[u8]) -> u8
-    ensures { λ r. ⌜ r ≡ reads phaseNumber (now (image .entry)) ⌝ }
+pub extern "C" fn thrandue_phase(image: &[u8; IMAGE]) -> u8
+    ensures { λ r. ⌜ r ≡ phaseNumber (decode (now (image .entry))) ⌝ }
 {
-    if image.len() != image::LENGTH {
-        return NO_IMAGE;
-    }
     let b = image::load(image);
-    image::phase_number(b)
+    let phase = b.phase;
+    match phase {
+        Phase::Awaiting => 0,
+        Phase::Busy {
+            direction: _,
+            tag: _,
+            length: _,
+        } => 1,
+        Phase::StatusWaiting {
+            tag: _,
+            residue: _,
+            status: _,
+        } => 2,
+        Phase::Stopped { reset } => 3 + reset as u8,
+    }
 }
 
 #[no_mangle]
-pub extern "C" fn thrandue_configuration(image: &[u8]) -> u8
-    ensures { λ r. ⌜ r ≡ reads configuration (now (image .entry)) ⌝ }
+pub extern "C" fn thrandue_configuration(image: &[u8; IMAGE]) -> u8
+    ensures { λ r. ⌜ r ≡ configuration (decode (now (image .entry))) ⌝ }
 {
-    if image.len() != image::LENGTH {
-        return NO_IMAGE;
-    }
     let b = image::load(image);
     if b.configured { 2 } else { 0 }
 }
 
 #[no_mangle]
-pub extern "C" fn thrandue_halts(image: &[u8]) -> u8
-    ensures { λ r. ⌜ r ≡ reads haltNumber (now (image .entry)) ⌝ }
+pub extern "C" fn thrandue_halts(image: &[u8; IMAGE]) -> u8
+    ensures { λ r. ⌜ r ≡ haltNumber (decode (now (image .entry))) ⌝ }
 {
-    if image.len() != image::LENGTH {
-        return NO_IMAGE;
-    }
     let b = image::load(image);
     b.halts.outward as u8 + 2 * b.halts.inward as u8
 }

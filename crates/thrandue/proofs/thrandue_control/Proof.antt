@@ -1,26 +1,49 @@
 -- `thrandue::thrandue_control` meets its contract.
-use borrow.Author.Needs.{needs}
+use mathlib.Core.Path.{refl}
+use native.Mathlib.Omega.{arith}
+use Rattle.rules.specs.declared.Change.the-variants.{Nothing}
 use Rattle.rules.specs.Step.{Control}
-use Rattle.thrandue.proofs.Laws.{no-image, image-left}
+use Rattle.outcomes.specs.Outcomes.{outcome}
+use Rattle.control.proofs.Granting.{by-judgement}
+use Rattle.image.specs.Image.{worldOf}
+use Rattle.thrandue.proofs.Laws.{unwritten, granted, sixteen}
+use borrow.Author.Needs.{needs}
 use Rattle.thrandue.proofs.thrandue_control.Statement.{statement}
 use Rattle.thrandue.proofs.thrandue_control.Tie as tie
+
+is-configured-requires : tie.Need-is-configured-requires
+is-configured-requires c κs = search needs
+
+judge-requires : tie.Need-judge-requires
+judge-requires c κs = search needs
+
+enum-known-judgement : tie.Need-enum-known-judgement
+enum-known-judgement c = search needs
 
 cast-result : tie.Need-cast-result
 cast-result c = search needs
 
-returns : tie.Need-returns
-returns c =
-    let at = c .before .before .before .before .before .before .args in
-    no-image (at .image .now) (at .memory .now) (Control (at .setup .now) (at .host .now)) (at .reply .now) (c .if1 .taken)
+enum-known-judgement-2 : tie.Need-enum-known-judgement-2
+enum-known-judgement-2 c = search needs
 
 load-requires : tie.Need-load-requires
 load-requires c κs = search needs
 
-control-requires : tie.Need-control-requires
-control-requires c κs = search needs
+serve-requires : tie.Need-serve-requires
+serve-requires c κs = search needs
 
 leave-requires : tie.Need-leave-requires
 leave-requires c κs = search needs
+
+returns : tie.Need-returns
+returns c =
+    let at = c .before .before .before .before .before .before .before .before .before .before .args in
+    let image = at .image .now in
+    let refused = c .before .judgement .given .0 .0 in
+    unwritten image (at .memory .now) (Control (at .setup .now) (at .host .now)) (at .reply .now) (outcome refused 0 Nothing)
+    (by-judgement (worldOf image (at .memory .now)) (at .setup .now) (at .host .now) (at .reply .now)
+    (rw (c .before .before .before .before .is-configured .ensures) at (c .before .before .before .judge .ensures)) (c .before .judgement .given .1))
+    (omega arith, refl)
 
 same-length : tie.Need-same-length
 same-length c = search needs
@@ -28,29 +51,32 @@ same-length c = search needs
 same-length-2 : tie.Need-same-length-2
 same-length-2 c = search needs
 
-same-length-3 : tie.Need-same-length-3
-same-length-3 c = search needs
-
 returns-2 : tie.Need-returns-2
 returns-2 c =
-    let start = c .before .before .before .before .before .before .before .before .before .before .before .before .before .before .before .before .before .before .before in
-    let if1 = c .before .before .before .before .before .before .before .before .before .before .before .before .before .if1 in
-    let load = c .before .before .before .before .before .before .before .before .before .before .before .load in
-    let control = c .before .before .before .before .before .before .before .control in
-    let leave = c .before .before .leave in
-    let at = start .args in
-    image-left (at .image .now) (at .memory .now) (Control (at .setup .now) (at .host .now)) (at .reply .now) (control .result) (if1 .left) (load .ensures) (control .ensures) (leave .ensures)
+    let at = c .before .before .before .before .before .before .before .before .before .before .before .before .before .before .before .before .before .before .before .before .before .before .args in
+    let image = at .image .now in
+    let served = c .before .before .before .before .before .before .serve in
+    let case = c .before .before .before .before .before .before .before .before .before .before .before .before .before .judgement2 .given in
+    granted image (at .memory .now) (Control (at .setup .now) (at .host .now)) (at .reply .now) (served .result) (case .0 .0) (case .0 .1 .0) (at .host .now)
+    (c .before .before .before .before .before .before .before .before .before .before .load .ensures) (served .ensures .0)
+    (by-judgement (worldOf image (at .memory .now)) (at .setup .now) (at .host .now) (at .reply .now)
+    (rw (c .before .before .before .before .before .before .before .before .before .before .before .before .before .before .before .before .is-configured .ensures) at (c .before .before .before .before .before .before .before .before .before .before .before .before .before .before .before .judge .ensures)) (case .1)
+    (sixteen image (omega (arith, c .before .before .before .before .before .before .before .before .before .serve-arg .given .0 .1))))
+    (served .ensures .1) (c .leave .ensures)
 
 pub thrandue-control-spec : {M : Type 1} → statement M
 thrandue-control-spec =
     tie.close
     (tie.spec
+    is-configured-requires
+    judge-requires
+    enum-known-judgement
     cast-result
-    returns
+    enum-known-judgement-2
     load-requires
-    control-requires
+    serve-requires
     leave-requires
+    returns
     same-length
     same-length-2
-    same-length-3
     returns-2)

@@ -1,0 +1,150 @@
+-- `image::make` meets its contract.
+use Rattle.lent.proofs.Laws.{bool-byte}
+use borrow.Author.Needs.{needs}
+use Rattle.image.proofs.make.Statement.{statement}
+use Rattle.image.proofs.make.Tie as tie
+
+enum-told : tie.Need-enum-told
+enum-told c = search needs
+
+enum-known-change : tie.Need-enum-known-change
+enum-known-change c = search needs
+
+cast-image : tie.Need-cast-image
+cast-image c = search needs
+
+element-write-image : tie.Need-element-write-image
+element-write-image c = search needs
+
+put-calm-requires : tie.Need-put-calm-requires
+put-calm-requires c κs = search needs
+
+enum-told-2 : tie.Need-enum-told-2
+enum-told-2 c = search needs
+
+element-write-image-2 : tie.Need-element-write-image-2
+element-write-image-2 c = search needs
+
+enum-known-change-2 : tie.Need-enum-known-change-2
+enum-known-change-2 c = search needs
+
+put-numbers-requires : tie.Need-put-numbers-requires
+put-numbers-requires c κs = search needs
+
+is-in-requires : tie.Need-is-in-requires
+is-in-requires c κs = search needs
+
+cast-put-phase : tie.Need-cast-put-phase
+cast-put-phase c = search needs
+
+put-phase-requires : tie.Need-put-phase-requires
+put-phase-requires c κs = search needs
+
+enum-known-change-3 : tie.Need-enum-known-change-3
+enum-known-change-3 c = search needs
+
+put-numbers-requires-2 : tie.Need-put-numbers-requires-2
+put-numbers-requires-2 c κs = search needs
+
+put-phase-requires-2 : tie.Need-put-phase-requires-2
+put-phase-requires-2 c κs = search needs
+
+put-halt-requires : tie.Need-put-halt-requires
+put-halt-requires c κs = search needs
+
+enum-told-3 : tie.Need-enum-told-3
+enum-told-3 c = search needs
+
+put-halts-requires : tie.Need-put-halts-requires
+put-halts-requires c κs = search needs
+
+put-phase-requires-3 : tie.Need-put-phase-requires-3
+put-phase-requires-3 c κs = search needs
+
+enum-told-4 : tie.Need-enum-told-4
+enum-told-4 c = search needs
+
+put-phase-requires-4 : tie.Need-put-phase-requires-4
+put-phase-requires-4 c κs = search needs
+
+enum-known-change-4 : tie.Need-enum-known-change-4
+enum-known-change-4 c = search needs
+
+put-halt-requires-2 : tie.Need-put-halt-requires-2
+put-halt-requires-2 c κs = search needs
+
+enum-told-5 : tie.Need-enum-told-5
+enum-told-5 c = search needs
+
+put-calm-requires-2 : tie.Need-put-calm-requires-2
+put-calm-requires-2 c κs = search needs
+
+returns : tie.Need-returns
+returns c = search needs
+
+returns-2 : tie.Need-returns-2
+returns-2 c = rw (c .before .before .before .change .given .1, c .put-calm .ensures, bool-byte)
+
+returns-3 : tie.Need-returns-3
+returns-3 c = rw (c .enum-told2 .given .1)
+
+returns-4 : tie.Need-returns-4
+returns-4 c = rw (c .before .before .before .before .before .before .change2 .given .1, c .put-phase .ensures, c .before .before .before .put-numbers .ensures, bool-byte, c .before .is-in .ensures)
+
+returns-5 : tie.Need-returns-5
+returns-5 c = rw (c .before .before .before .before .before .before .before .before .change3 .given .1, c .before .before .if1 .taken, c .put-halt .ensures, c .before .before .before .put-phase2 .ensures, c .before .before .before .before .before .put-numbers2 .ensures)
+
+returns-6 : tie.Need-returns-6
+returns-6 c = rw (c .before .before .before .before .before .before .change3 .given .1, c .if1 .left, c .before .put-phase2 .ensures, c .before .before .before .put-numbers2 .ensures)
+
+returns-7 : tie.Need-returns-7
+returns-7 c = rw (c .before .before .before .before .enum-told3 .given .1, c .put-phase3 .ensures, c .before .before .put-halts .ensures)
+
+returns-8 : tie.Need-returns-8
+returns-8 c = rw (c .before .before .enum-told4 .given .1) (c .put-phase4 .ensures)
+
+returns-9 : tie.Need-returns-9
+returns-9 c = rw (c .before .before .before .change4 .given .1) (c .put-halt2 .ensures)
+
+returns-10 : tie.Need-returns-10
+returns-10 c = rw (c .before .before .enum-told5 .given .1) (c .put-calm2 .ensures)
+
+pub make-spec : {M : Type 1} → statement M
+make-spec =
+    tie.close
+    (tie.spec
+    enum-told
+    enum-known-change
+    cast-image
+    element-write-image
+    put-calm-requires
+    enum-told-2
+    element-write-image-2
+    enum-known-change-2
+    put-numbers-requires
+    is-in-requires
+    cast-put-phase
+    put-phase-requires
+    enum-known-change-3
+    put-numbers-requires-2
+    put-phase-requires-2
+    put-halt-requires
+    enum-told-3
+    put-halts-requires
+    put-phase-requires-3
+    enum-told-4
+    put-phase-requires-4
+    enum-known-change-4
+    put-halt-requires-2
+    enum-told-5
+    put-calm-requires-2
+    returns
+    returns-2
+    returns-3
+    returns-4
+    returns-5
+    returns-6
+    returns-7
+    returns-8
+    returns-9
+    returns-10)

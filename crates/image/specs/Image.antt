@@ -1,0 +1,108 @@
+-- The image of a bridge: twenty-nine bytes that stand for its state and hold its configuration bytes. Any twenty-nine bytes stand for some state.
+use Prim.Native.Nat.{ℕ, _%_, _^_, _<_}
+use mathlib.Core.Path.{_≡_}
+use mathlib.Core.Bool.{Bool, cond, not}
+use mathlib.Core.List.{List, _++_}
+use lib.ListN.{length, set, take, drop, replicate}
+use lib.Dec.{eqb}
+use Rattle.rules.specs.declared.Bridge.{Bridge}
+use Rattle.rules.specs.declared.Change.{Change}
+use Rattle.rules.specs.declared.Change.the-variants.{Nothing, Sets, Awaits, Begins, Finishes, Stops, Notes, Clears, Ends}
+use Rattle.rules.specs.declared.Direction.{Direction}
+use Rattle.rules.specs.declared.Direction.the-variants.{Out, In}
+use Rattle.rules.specs.declared.Phase.{Phase}
+use Rattle.rules.specs.declared.Phase.the-variants.{Awaiting, Busy, StatusWaiting, Stopped}
+use Rattle.rules.specs.Words.{byte, long, bytes4, one, over}
+use Rattle.rules.specs.Held.{World, world, powerOnBytes, marks}
+use Rattle.rules.specs.Held.{powered as atPowerOn}
+use Rattle.rules.specs.Changes.{made}
+use Rattle.rules.specs.Packets.{inward}
+
+-- ---- read: at 0 the configuration bytes, at 16 the tag, at 20 L or the residue; at 24, 25 and 26 a mark each, set where it is not 0: configured, bulk
+-- out halted, bulk in halted; at 27 the phase, 0 awaiting, 1 busy, 2 status waiting, else stopped; at 28 its direction, its status, or whether a Mass
+-- Storage Reset has come
+
+abbrev pub bytesOf : List ℕ → List ℕ
+bytesOf image = take 16 image
+
+abbrev pub isMarked : ℕ → Bool
+isMarked mark = not (eqb mark 0)
+
+abbrev pub isOdd : ℕ → Bool
+isOdd detail = eqb (detail % 2) 1
+
+abbrev pub directionFrom : ℕ → Direction
+directionFrom detail = cond (isOdd detail) In Out
+
+abbrev pub phaseFrom : ℕ → ℕ → ℕ → ℕ → Phase
+phaseFrom kind detail tag amount =
+    cond (eqb kind 0) Awaiting
+    (cond (eqb kind 1) (Busy (directionFrom detail) tag amount)
+    (cond (eqb kind 2) (StatusWaiting tag amount detail)
+    (Stopped (isOdd detail))))
+
+abbrev pub decode : List ℕ → Bridge
+decode image =
+    record {
+      configured = isMarked (byte 24 image);
+      phase = phaseFrom (byte 27 image) (byte 28 image) (long 16 image) (long 20 image);
+      halts = marks (isMarked (byte 25 image)) (isMarked (byte 26 image));
+    }
+
+abbrev pub worldOf : List ℕ → List ℕ → World
+worldOf image memory = world (decode image) (bytesOf image) memory
+
+-- ---- written: at power-on, and by each change. What an earlier phase left where this one has nothing stays.
+
+abbrev pub powered : List ℕ
+powered = powerOnBytes ++ replicate 13 0
+
+abbrev pub numbered : ℕ → ℕ → List ℕ → List ℕ
+numbered tag amount image = over (over image 16 (bytes4 tag)) 20 (bytes4 amount)
+
+abbrev pub phased : ℕ → ℕ → List ℕ → List ℕ
+phased kind detail image = set (set image 27 kind) 28 detail
+
+abbrev pub marked : Direction → ℕ → List ℕ → List ℕ
+marked Out mark image = set image 25 mark
+marked In mark image = set image 26 mark
+
+abbrev pub calm : List ℕ → List ℕ
+calm image = set (set (set image 25 0) 26 0) 27 0
+
+abbrev pub put : Change → List ℕ → List ℕ
+put Nothing image = image
+put (Sets c) image = calm (set image 24 (one c))
+put Awaits image = set image 27 0
+put (Begins direction tag l) image = phased 1 (one (inward direction)) (numbered tag l image)
+put (Finishes direction halts status tag residue) image =
+    let now = phased 2 status (numbered tag residue image) in
+    cond halts (marked direction 1 now) now
+put Stops image = phased 3 0 (set (set image 25 1) 26 1)
+put Notes image = phased 3 1 image
+put (Clears direction) image = marked direction 0 image
+put Ends image = calm image
+
+-- ---- what was put is read back, proved in proofs/InStep
+
+-- the numbers of a change have 32 bits, as their types say
+abbrev pub Sized : Change → Type 0
+Sized Nothing = Unit
+Sized (Sets c) = Unit
+Sized Awaits = Unit
+Sized (Begins direction tag l) = (tag < 2 ^ 32) × (l < 2 ^ 32)
+Sized (Finishes direction halts status tag residue) = (tag < 2 ^ 32) × (residue < 2 ^ 32)
+Sized Stops = Unit
+Sized Notes = Unit
+Sized (Clears direction) = Unit
+Sized Ends = Unit
+
+-- the image at power-on stands for the world at power-on
+abbrev pub PowersOn : Type 0
+PowersOn = (memory : List ℕ) → worldOf powered memory ≡ atPowerOn memory
+
+-- an image whose configuration bytes were written and where a change was put stands for those bytes and the bridge with the change made
+abbrev pub InStep : Type 0
+InStep =
+    (c : Change) (bytes image memory : List ℕ) → length bytes ≡ 16 → length image ≡ 29 → Sized c
+    → worldOf (put c (bytes ++ drop 16 image)) memory ≡ world (made c (decode image)) bytes memory

@@ -1,0 +1,210 @@
+// The image of a bridge with its configuration bytes: twenty-nine bytes, read, and changed in place.
+ghost use mathlib.Core.Path.{_≡_};
+ghost use lib.ListN.{set};
+ghost use Rattle.rules.specs.Words.{long, byte};
+ghost use Rattle.rules.specs.Packets.{inward, signatureOf};
+ghost use Rattle.image.specs.Image.{bytesOf, isMarked, directionFrom, phaseFrom, decode, powered, numbered, phased, marked, calm, put};
+use rules::Bridge;
+use rules::Change;
+use rules::Direction;
+use rules::Halts;
+use rules::Phase;
+
+pub const IMAGE: usize = 29;
+
+// Behind the sixteen configuration bytes stand the tag, and L or the residue; a mark each for configured, bulk out halted and bulk in halted; the
+// phase; and its direction, its status or its note.
+const SIGNATURE: usize = 0x04;
+
+const TAG: usize = 16;
+
+const AMOUNT: usize = 20;
+
+const CONFIGURED: usize = 24;
+
+const OUTWARD: usize = 25;
+
+const INWARD: usize = 26;
+
+const PHASE: usize = 27;
+
+const DETAIL: usize = 28;
+
+const AWAITING: u8 = 0;
+
+const BUSY: u8 = 1;
+
+const STATUS_WAITING: u8 = 2;
+
+const STOPPED: u8 = 3;
+
+// Whatever it held, an image is that of a bridge at power-on.
+pub fn power_on(image: &mut [u8; IMAGE])
+    ensures { λ u. ⌜ now (image .exit) ≡ powered ⌝ }
+{
+    *image = [0; IMAGE];
+    lent::copy(image, 0, &rules::power_on_bytes());
+}
+
+fn direction_from(detail: u8) -> Direction
+    ensures { λ r. ⌜ r ≡ directionFrom detail ⌝ }
+{
+    if detail % 2 == 1 {
+        return Direction::In;
+    }
+    Direction::Out
+}
+
+// The direction is read beforehand: then no arm does more than put a phase together, and none costs a jump.
+fn phase_from(kind: u8, detail: u8, tag: u32, amount: u32) -> Phase
+    ensures { λ r. ⌜ r ≡ phaseFrom kind detail tag amount ⌝ }
+{
+    let direction = direction_from(detail);
+    match kind {
+        AWAITING => Phase::Awaiting,
+        BUSY => Phase::Busy {
+            direction: direction,
+            tag: tag,
+            length: amount,
+        },
+        STATUS_WAITING => Phase::StatusWaiting {
+            tag: tag,
+            residue: amount,
+            status: detail,
+        },
+        _ => Phase::Stopped {
+            reset: detail % 2 == 1,
+        },
+    }
+}
+
+fn tag_of(image: &[u8; IMAGE]) -> u32
+    ensures { λ r. ⌜ r ≡ long 16 (now (image .entry)) ⌝ }
+{
+    lent::long(image[TAG], image[TAG + 1], image[TAG + 2], image[TAG + 3])
+}
+
+fn amount_of(image: &[u8; IMAGE]) -> u32
+    ensures { λ r. ⌜ r ≡ long 20 (now (image .entry)) ⌝ }
+{
+    lent::long(
+        image[AMOUNT],
+        image[AMOUNT + 1],
+        image[AMOUNT + 2],
+        image[AMOUNT + 3],
+    )
+}
+
+pub fn signature_of(image: &[u8; IMAGE]) -> u8
+    ensures { λ r. ⌜ r ≡ signatureOf (bytesOf (now (image .entry))) ⌝ }
+{
+    image[SIGNATURE]
+}
+
+pub fn is_configured(image: &[u8; IMAGE]) -> bool
+    ensures { λ r. ⌜ r ≡ isMarked (byte 24 (now (image .entry))) ⌝ }
+{
+    image[CONFIGURED] != 0
+}
+
+// The state that the image stands for.
+pub fn load(image: &[u8; IMAGE]) -> Bridge
+    ensures { λ r. ⌜ r ≡ decode (now (image .entry)) ⌝ }
+{
+    let tag = tag_of(image);
+    let amount = amount_of(image);
+    Bridge {
+        configured: is_configured(image),
+        phase: phase_from(image[PHASE], image[DETAIL], tag, amount),
+        halts: Halts {
+            outward: image[OUTWARD] != 0,
+            inward: image[INWARD] != 0,
+        },
+    }
+}
+
+fn put_numbers(image: &mut [u8; IMAGE], tag: u32, amount: u32)
+    ensures { λ u. ⌜ now (image .exit) ≡ numbered tag amount (now (image .entry)) ⌝ }
+{
+    lent::copy(image, TAG, &lent::bytes_of(tag));
+    lent::copy(image, AMOUNT, &lent::bytes_of(amount));
+}
+
+fn put_phase(image: &mut [u8; IMAGE], kind: u8, detail: u8)
+    ensures { λ u. ⌜ now (image .exit) ≡ phased kind detail (now (image .entry)) ⌝ }
+{
+    image[PHASE] = kind;
+    image[DETAIL] = detail;
+}
+
+fn put_halt(image: &mut [u8; IMAGE], direction: Direction, mark: u8)
+    ensures { λ u. ⌜ now (image .exit) ≡ marked direction mark (now (image .entry)) ⌝ }
+{
+    match direction {
+        Direction::Out => {
+            image[OUTWARD] = mark;
+        }
+        Direction::In => {
+            image[INWARD] = mark;
+        }
+    }
+}
+
+fn put_halts(image: &mut [u8; IMAGE], mark: u8)
+    ensures { λ u. ⌜ now (image .exit) ≡ set (set (now (image .entry)) 25 mark) 26 mark ⌝ }
+{
+    image[OUTWARD] = mark;
+    image[INWARD] = mark;
+}
+
+// Awaiting, no halts.
+fn put_calm(image: &mut [u8; IMAGE])
+    ensures { λ u. ⌜ now (image .exit) ≡ calm (now (image .entry)) ⌝ }
+{
+    put_halts(image, 0);
+    image[PHASE] = AWAITING;
+}
+
+// A change is made, in place. What an earlier phase left where this one has nothing stays.
+pub fn make(image: &mut [u8; IMAGE], change: Change)
+    ensures { λ u. ⌜ now (image .exit) ≡ put change (now (image .entry)) ⌝ }
+{
+    match change {
+        Change::Nothing => {}
+        Change::Sets(configured) => {
+            image[CONFIGURED] = configured as u8;
+            put_calm(image);
+        }
+        Change::Awaits => {
+            image[PHASE] = AWAITING;
+        }
+        Change::Begins {
+            direction,
+            tag,
+            length,
+        } => {
+            put_numbers(image, tag, length);
+            put_phase(image, BUSY, direction.is_in() as u8);
+        }
+        Change::Finishes {
+            direction,
+            halts,
+            status,
+            tag,
+            residue,
+        } => {
+            put_numbers(image, tag, residue);
+            put_phase(image, STATUS_WAITING, status);
+            if halts {
+                put_halt(image, direction, 1);
+            }
+        }
+        Change::Stops => {
+            put_halts(image, 1);
+            put_phase(image, STOPPED, 0);
+        }
+        Change::Notes => put_phase(image, STOPPED, 1),
+        Change::Clears(direction) => put_halt(image, direction, 0),
+        Change::Ends => put_calm(image),
+    }
+}
