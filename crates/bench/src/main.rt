@@ -46,14 +46,20 @@ fn refilled(s: Stream, input: &mut [u8]) -> Stream
 }
 
 // Takes what is there and writes its lines, and waits only when nothing could be taken.
-fn turned(s: Stream, input: &mut [u8], memory: &mut [u8], output: &mut [u8]) -> Stream
+fn turned(
+    s: Stream,
+    bytes: &mut [u8; 16],
+    input: &mut [u8],
+    memory: &mut [u8],
+    output: &mut [u8],
+) -> Stream
     requires { ⌜ Inside s (now input) ⌝ }
     ensures { λ r. ⌜ Inside r (now (input .exit)) ⌝ }
 {
     let before = s.bridge;
     let start = s.start;
     let end = s.end;
-    let ran = records::run(before, &input[start..end], s.last, memory, output);
+    let ran = records::run(before, bytes, &input[start..end], s.last, memory, output);
     let bridge = ran.bridge;
     let written = ran.written;
     let is_written = io::write_all(STDOUT_FILENO, &output[..written]);
@@ -72,6 +78,7 @@ fn turned(s: Stream, input: &mut [u8], memory: &mut [u8], output: &mut [u8]) -> 
 
 // A proved loop has to end, and nothing says that a stream does: it counts down from a number that no run uses up.
 fn serve(input: &mut [u8], memory: &mut [u8], output: &mut [u8]) {
+    let mut bytes = rules::power_on_bytes();
     let mut s = Stream {
         bridge: Bridge::power_on(),
         start: 0,
@@ -81,7 +88,7 @@ fn serve(input: &mut [u8], memory: &mut [u8], output: &mut [u8]) {
     };
     let mut turns = u64::MAX;
     while s.going & (turns > 0) {
-        s = turned(s, input, memory, output);
+        s = turned(s, &mut bytes, input, memory, output);
         turns -= 1;
     }
 }

@@ -9,17 +9,18 @@ use lib.ListN.{length, take, drop, length-append, length-drop, drop-of-length-le
 use lib.Seq.{take-all, take-length, take-append-seam, drop-length}
 use borrow.Author.Tests.{eqb-true, ne-eqb, ltb-true, ltb-false}
 use Rattle.rules.specs.Words.{laid}
-use Rattle.rules.specs.Held.{World}
+use Rattle.rules.specs.Held.{World, world}
+use Rattle.rules.specs.Changes.{made}
 use Rattle.rules.specs.Step.{Event, Control, StatusRequest, step}
-use Rattle.rules.specs.Promise.{Left, handedOut}
-use Rattle.held.specs.declared.Outcome.{Outcome}
-use Rattle.held.specs.Outcomes.{Leaves}
+use Rattle.rules.specs.Promise.{Left, handedOut, leaves}
+use Rattle.outcomes.specs.declared.Outcome.{Outcome}
+use Rattle.outcomes.specs.Outcomes.{leftBy}
 use Rattle.records.specs.declared.Printed.{Printed}
 use Rattle.records.specs.Records.{torn, eventOf}
 use Rattle.records.specs.Lines.{hexByte, hexOf}
 use Rattle.records.specs.Printed.{Line, Prints}
 
-module _ (w : World) (event : ℕ → Event) (room : List ℕ) (o : Outcome) (memory now : List ℕ) (h : Leaves w event room o memory now) where
+module _ (w : World) (event : ℕ → Event) (room : List ℕ) (o : Outcome) (bytes memory now : List ℕ) (h : leftBy o bytes memory now ≡ leaves w event room) where
   abbrev e : Event
   e = event (length room)
 
@@ -41,11 +42,14 @@ module _ (w : World) (event : ℕ → Event) (room : List ℕ) (o : Outcome) (me
   handed : take (o .count) now ≡ out
   handed = rw (count-is, now-is) (take-append-seam out (drop (length out) room))
 
-  pub prints : (f : ℕ → List ℕ) → hexOf e ≡ f → {into after : List ℕ} {at : ℕ} {p : Printed} → Line f o now into at p after
-      → Prints w e into at p memory after
+  world-is : world (made (o .change) (w .bridge)) bytes memory ≡ step w e .next
+  unfolding step
+  world-is = ap (λ (l : Left). world (made (l .change) (w .bridge)) (l .bytes) (l .memory)) h
+
+  pub prints : (f : ℕ → List ℕ) → hexOf e ≡ f → {into after : List ℕ} {at : ℕ} {p : Printed} → Line f (w .bridge) o now into at p after
+      → Prints w e into at p bytes memory after
   prints f hex l = record {
-    bridge = l .bridge ∙ ap (λ (x : Left). x .bridge) h;
-    kept = ap (λ (x : Left). x .memory) h;
+    next = rw (l .bridge) world-is;
     line = rw (hex, ← handed, sym (ap (λ (x : Left). x .answer) h)) (l .line);
     fits = l .fits;
   }
@@ -63,13 +67,13 @@ control-event p reply {n} is l = rw (take-all (length p - n) (drop n p) (rw leng
         rw (m, take-length p, drop-length p, take-all 8 p short, drop-of-length-le p {i = 8} short)
     go false e = let m : min (length p) 8 ≡ 8 = omega (arith, ltb-false (length p) 8 e) in rw m
 
-pub control-prints : (w : World) (p reply : List ℕ) {n : ℕ} {o : Outcome} {memory now into after : List ℕ} {at : ℕ} {printed : Printed}
+pub control-prints : (w : World) (p reply : List ℕ) {n : ℕ} {o : Outcome} {bytes memory now into after : List ℕ} {at : ℕ} {printed : Printed}
     → n ≡ min (length p) 8 → length reply ≡ 4096
-    → Leaves w (Control (take n p) (take (length p - n) (drop n p))) reply o memory now → Line hexByte o now into at printed after
-    → Prints w (eventOf 2 p) into at printed memory after
-control-prints w p reply {n} {o} {memory} {now} {into} {after} {at} {printed} is l h line =
-    subst (λ (e : Event). Prints w e into at printed memory after) (control-event p reply is l)
-    (prints w (Control (take n p) (take (length p - n) (drop n p))) reply o memory now h hexByte refl line)
+    → leftBy o bytes memory now ≡ leaves w (Control (take n p) (take (length p - n) (drop n p))) reply → Line hexByte (w .bridge) o now into at printed after
+    → Prints w (eventOf 2 p) into at printed bytes memory after
+control-prints w p reply {n} {o} {bytes} {memory} {now} {into} {after} {at} {printed} is l h line =
+    subst (λ (e : Event). Prints w e into at printed bytes memory after) (control-event p reply is l)
+    (prints w (Control (take n p) (take (length p - n) (drop n p))) reply o bytes memory now h hexByte refl line)
 
 -- "a report payload that isn't 6 bytes" is torn
 pub report-six : {kind n : ℕ} → kind ≡ 4 → torn kind n ≡ false → n ≡ 6
@@ -82,10 +86,10 @@ report-six {kind} {n} k h = go (ltb 520 n) (eqb n 6) refl (rw k at h)
     go false false e f = absurd (true≢false f)
 
 -- a kind that is none of the others is that of a status request
-pub status-prints : (w : World) {kind : ℕ} (p reply : List ℕ) {o : Outcome} {memory now into after : List ℕ} {at : ℕ} {printed : Printed}
+pub status-prints : (w : World) {kind : ℕ} (p reply : List ℕ) {o : Outcome} {bytes memory now into after : List ℕ} {at : ℕ} {printed : Printed}
     → (kind ≡ 1 → ⊥) → (kind ≡ 2 → ⊥) → (kind ≡ 3 → ⊥) → (kind ≡ 4 → ⊥) → length reply ≡ 4096
-    → Leaves w StatusRequest reply o memory now → Line hexByte o now into at printed after
-    → Prints w (eventOf kind p) into at printed memory after
+    → leftBy o bytes memory now ≡ leaves w StatusRequest reply → Line hexByte (w .bridge) o now into at printed after
+    → Prints w (eventOf kind p) into at printed bytes memory after
 unfolding eventOf
-status-prints w {kind} p reply {o} {memory} {now} a b c d l h line =
-    rw (ne-eqb kind 1 a, ne-eqb kind 2 b, ne-eqb kind 3 c, ne-eqb kind 4 d, ← l) (prints w StatusRequest reply o memory now h hexByte refl line)
+status-prints w {kind} p reply {o} {bytes} {memory} {now} a b c d l h line =
+    rw (ne-eqb kind 1 a, ne-eqb kind 2 b, ne-eqb kind 3 c, ne-eqb kind 4 d, ← l) (prints w StatusRequest reply o bytes memory now h hexByte refl line)

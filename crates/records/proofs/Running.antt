@@ -38,16 +38,16 @@ rest-same Torn w e = refl
 rest-same Part w e = refl
 
 module _ (last : Bool) (s room : List ℕ) (all : Run) where
-  pub record So (b : Bridge) (memory output : List ℕ) (head : Head) (used written records : ℕ) : Type 0 where
+  pub record So (w : World) (output : List ℕ) (head : Head) (used written records : ℕ) : Type 0 where
     pub events : List Event
     pub lines : List ℕ
     pub stored : Put room 0 lines output written
     pub fits : written ≤ length room
     pub inside : used ≤ length s
-    pub same : all ≡ before events lines used (remains head (world b memory) (run records last (length room - written) (world b memory) (drop used s)))
+    pub same : all ≡ before events lines used (remains head w (run records last (length room - written) w (drop used s)))
 
-  pub starts : (b : Bridge) (memory : List ℕ) → all ≡ run (length s) last (length room) (world b memory) s → So b memory room Whole 0 0 (length s)
-  starts b memory e = record {
+  pub starts : (w : World) → all ≡ run (length s) last (length room) w s → So w room Whole 0 0 (length s)
+  starts w e = record {
     events = [];
     lines = [];
     stored = put-none room 0;
@@ -56,20 +56,20 @@ module _ (last : Bool) (s room : List ℕ) (all : Run) where
     same = let none : length room - 0 ≡ length room = omega arith in rw none (e ∙ before-none _);
   }
 
-  module _ {b : Bridge} {memory output : List ℕ} {used written records : ℕ} (so : So b memory output Whole used written (suc records))
-      {t : Turned} {memory' output' : List ℕ} (turns : Turns last (world b memory) (drop used s) output written t memory' output') where
+  module _ {w : World} {output : List ℕ} {used written records : ℕ} (so : So w output Whole used written (suc records))
+      {t : Turned} {bytes' memory' output' : List ℕ} (turns : Turns last w (drop used s) output written t bytes' memory' output') where
     abbrev rest : List ℕ
     rest = drop used s
 
     abbrev next : World
-    next = world (t .bridge) memory'
+    next = world (t .bridge) bytes' memory'
 
     abbrev event : Event
     event = eventIn rest
 
     -- what is left after the first record, as the rules count it
     abbrev after : ℕ → Run
-    after length-output = run records last (length-output - written - length (line event (step (world b memory) event))) (step (world b memory) event .next) (drop (4 + lengthOf rest) rest)
+    after length-output = run records last (length-output - written - length (line event (step w event))) (step w event .next) (drop (4 + lengthOf rest) rest)
 
     onward-same : t .head ≡ Whole → after (length output) ≡ run records last (length room - t .next) next (drop (used + t .used) s)
     onward-same w =
@@ -77,13 +77,13 @@ module _ (last : Bool) (s room : List ℕ) (all : Run) where
         let left : length output - written - length (turns .printed) ≡ length room - t .next = omega (arith, put-length (so .stored), turns .stored .moved) in
         rw (sym (facts .0), sym (facts .1), sym (facts .2), left, drop-drop (t .used) used s)
 
-    first-same : run (suc records) last (length room - written) (world b memory) rest
+    first-same : run (suc records) last (length room - written) w rest
         ≡ before (turns .events) (turns .printed) (t .used) (remains (t .head) next (run records last (length room - t .next) next (drop (used + t .used) s)))
     first-same =
         rw (put-length (so .stored)) at
         (turns .same (after (length output)) ∙ ap (before (turns .events) (turns .printed) (t .used)) (rest-same (t .head) next onward-same))
 
-    pub goes : So (t .bridge) memory' output' (t .head) (used + t .used) (t .next) records
+    pub goes : So next output' (t .head) (used + t .used) (t .next) records
     goes = record {
       events = so .events ++ turns .events;
       lines = so .lines ++ turns .printed;
@@ -113,26 +113,26 @@ at-end last Part w records n s e = refl
 part-left : (s : List ℕ) (used : ℕ) → take (length s - used) (drop used s) ≡ drop used s
 part-left s used = take-all (length s - used) (drop used s) (rw length-drop (omega arith))
 
-module _ (last : Bool) (s room : List ℕ) (all : Run) {b : Bridge} {memory output : List ℕ} {head : Head} {used written records : ℕ}
-    (so : So last s room all b memory output head used written records) {whole : Bool} (is : whole ≡ isWhole head) where
-  pub turns-on : (whole && ltb 0 records) ≡ true → {t : Turned} {memory' output' : List ℕ}
-      → Turns last (world b memory) (take (length s - used) (drop used s)) output written t memory' output'
-      → So last s room all (t .bridge) memory' output' (t .head) (used + t .used) (t .next) (records - 1)
+module _ (last : Bool) (s room : List ℕ) (all : Run) {b : Bridge} {bytes memory output : List ℕ} {head : Head} {used written records : ℕ}
+    (so : So last s room all (world b bytes memory) output head used written records) {whole : Bool} (is : whole ≡ isWhole head) where
+  pub turns-on : (whole && ltb 0 records) ≡ true → {t : Turned} {bytes' memory' output' : List ℕ}
+      → Turns last (world b bytes memory) (take (length s - used) (drop used s)) output written t bytes' memory' output'
+      → So last s room all (world (t .bridge) bytes' memory') output' (t .head) (used + t .used) (t .next) (records - 1)
   turns-on e turns =
       let both = and-eq-true-iff whole (ltb 0 records) .0 e in
       let more : records ≡ suc (records - 1) = omega (arith, ltb-true 0 records (both .1)) in
       let this : head ≡ Whole = whole-is head (sym is ∙ both .0) in
       goes last s room all (rw (this, more) at so) (rw (part-left s used) at turns)
 
-  pub used-inside : {t : Turned} {memory' output' : List ℕ} → Turns last (world b memory) (take (length s - used) (drop used s)) output written t memory' output'
+  pub used-inside : {t : Turned} {bytes' memory' output' : List ℕ} → Turns last (world b bytes memory) (take (length s - used) (drop used s)) output written t bytes' memory' output'
       → used + t .used ≤ length s
   used-inside turns = omega (arith, so .inside, (rw (part-left s used) at turns) .inside, length-drop used s)
 
   pub ends : (whole && ltb 0 records) ≡ false → {torn : Bool} → torn ≡ isTorn head
-      → left (record { bridge = b; used = used; written = written; torn = torn }) memory output ≡ leftBy all room
+      → left (record { bridge = b; used = used; written = written; torn = torn }) bytes memory output ≡ leftBy all room
   ends e t =
       let done : (isWhole head && ltb 0 records) ≡ false = rw is at e in
-      let all-is : all ≡ before (so .events) (so .lines) used (ended (isTorn head) (world b memory)) =
-      so .same ∙ ap (before (so .events) (so .lines) used) (at-end last head (world b memory) records (length room - written) (drop used s) done) in
+      let all-is : all ≡ before (so .events) (so .lines) used (ended (isTorn head) (world b bytes memory)) =
+      so .same ∙ ap (before (so .events) (so .lines) used) (at-end last head (world b bytes memory) records (length room - written) (drop used s) done) in
       let laid-there = put-laid (so .stored) (omega (arith, so .stored .moved, so .fits)) in
       rw (all-is, append-nil (so .lines), add-zero used, t, laid-there, so .stored .moved, zero-add)

@@ -24,8 +24,8 @@ use Rattle.records.proofs.Heads.{whole-facts}
 no : {A : Type 0} {h : Head} → isWhole h ≡ false → h ≡ Whole → A
 no f h = absurd (true≢false (sym (ap isWhole h) ∙ f))
 
-module _ (last : Bool) (b : Bridge) (m s room : List ℕ) (at : ℕ) (inside : at ≤ length room) where
-  pub no-room : length room - at < lineMost → Turns last (world b m) s room at (turned Part b 0 at) m room
+module _ (last : Bool) (b : Bridge) (bytes m s room : List ℕ) (at : ℕ) (inside : at ≤ length room) where
+  pub no-room : length room - at < lineMost → Turns last (world b bytes m) s room at (turned Part b 0 at) bytes m room
   no-room l = record {
     events = [];
     printed = [];
@@ -37,7 +37,7 @@ module _ (last : Bool) (b : Bridge) (m s room : List ℕ) (at : ℕ) (inside : a
   }
 
   module _ (l : lineMost ≤ length room - at) {h : Head} (is : h ≡ headOf last s) where
-    pub part-taken : h ≡ Part → Turns last (world b m) s room at (turned h b 0 at) m room
+    pub part-taken : h ≡ Part → Turns last (world b bytes m) s room at (turned h b 0 at) bytes m room
     part-taken k = record {
       events = [];
       printed = [];
@@ -48,7 +48,7 @@ module _ (last : Bool) (b : Bridge) (m s room : List ℕ) (at : ℕ) (inside : a
       onward = no (ap isWhole k);
     }
 
-    pub torn-taken : h ≡ Torn → {now : List ℕ} {next : ℕ} → Put room at tornLine now next → Turns last (world b m) s room at (turned h b 0 next) m now
+    pub torn-taken : h ≡ Torn → {now : List ℕ} {next : ℕ} → Put room at tornLine now next → Turns last (world b bytes m) s room at (turned h b 0 next) bytes m now
     torn-taken k p = record {
       events = [];
       printed = tornLine;
@@ -78,10 +78,10 @@ module _ (last : Bool) (b : Bridge) (m s room : List ℕ) (at : ℕ) (inside : a
       event-is : eventOf kind payload ≡ eventIn s
       event-is = let cut : 4 + n - 4 ≡ lengthOf s = omega arith in rw (cut, hk)
 
-      pub whole-taken : {p : Printed} {memory now : List ℕ} → Prints (world b m) (eventOf kind payload) room at p memory now
-          → Turns last (world b m) s room at (turned h (p .bridge) (4 + n) (p .next)) memory now
-      whole-taken {p} {memory} {now} said =
-          let prints : Prints (world b m) (eventIn s) room at p memory now = rw event-is at said in
+      pub whole-taken : {p : Printed} {bytes' memory now : List ℕ} → Prints (world b bytes m) (eventOf kind payload) room at p bytes' memory now
+          → Turns last (world b bytes m) s room at (turned h (p .bridge) (4 + n) (p .next)) bytes' memory now
+      whole-taken {p} {bytes'} {memory} {now} said =
+          let prints : Prints (world b bytes m) (eventIn s) room at p bytes' memory now = rw event-is at said in
           let size : 4 + n ≡ 4 + lengthOf s = omega arith in
           record {
             events = eventIn s ∷ [];
@@ -90,5 +90,5 @@ module _ (last : Bool) (b : Bridge) (m s room : List ℕ) (at : ℕ) (inside : a
             fits = prints .fits;
             inside = ends-inside;
             same = λ r. rw (le-ltb (length room - at) lineMost l, ← is, k, size);
-            onward = λ w. (refl, size, rw (prints .bridge, prints .kept));
+            onward = λ w. (refl, size, prints .next);
           }

@@ -10,11 +10,11 @@ use Rattle.records.specs.declared.Ran.{Ran}
 use Rattle.records.specs.Runs.{Left, left, leaves}
 
 abbrev ranOf : Left → Ran
-ranOf l = record { bridge = l .bridge; used = l .used; written = l .written; torn = l .torn }
+ranOf l = record { bridge = l .world .bridge; used = l .used; written = l .written; torn = l .torn }
 
-pub run : (b : Bridge) (input : List ℕ) (last : Bool) (memory output : List ℕ) (r r' : Ran) (m m' now now' : List ℕ)
-    → left r m now ≡ leaves last (world b memory) input output → left r' m' now' ≡ leaves last (world b memory) input output
-    → (r ≡ r') × (m ≡ m') × (now ≡ now')
-run b input last memory output r r' m m' now now' p q =
+pub run : (b : Bridge) (bytes input : List ℕ) (last : Bool) (memory output : List ℕ) (r r' : Ran) (c c' m m' now now' : List ℕ)
+    → left r c m now ≡ leaves last (world b bytes memory) input output → left r' c' m' now' ≡ leaves last (world b bytes memory) input output
+    → (r ≡ r') × (c ≡ c') × (m ≡ m') × (now ≡ now')
+run b bytes input last memory output r r' c c' m m' now now' p q =
     let same = only p q in
-    (ap ranOf same, ap (λ (l : Left). l .memory) same, ap (λ (l : Left). l .output) same)
+    (ap ranOf same, ap (λ (l : Left). l .world .bytes) same, ap (λ (l : Left). l .world .memory) same, ap (λ (l : Left). l .output) same)

@@ -6,8 +6,9 @@ use mathlib.Core.List.{List, [], _∷_, _++_}
 use lib.ListN.{length, take}
 use Rattle.rules.specs.declared.Bridge.{Bridge}
 use Rattle.rules.specs.Held.{World, world}
+use Rattle.rules.specs.Changes.{made}
 use Rattle.rules.specs.Step.{Event, step}
-use Rattle.held.specs.declared.Outcome.{Outcome}
+use Rattle.outcomes.specs.declared.Outcome.{Outcome}
 use Rattle.lent.specs.Rows.{Put}
 use Rattle.records.specs.declared.Head.{Head}
 use Rattle.records.specs.declared.Head.the-variants.{Whole, Torn, Part}
@@ -17,15 +18,14 @@ use Rattle.records.specs.Records.{lengthOf}
 use Rattle.records.specs.Lines.{number, each, line}
 use Rattle.records.specs.Runs.{Run, eventIn, turnIn}
 
--- the line of an outcome, with what it handed out at the front of `out`
-pub record Line (f : ℕ → List ℕ) (o : Outcome) (out room : List ℕ) (at : ℕ) (p : Printed) (now : List ℕ) : Type 0 where
-  pub bridge : p .bridge ≡ o .bridge
+-- the line of an outcome, with what it handed out at the front of `out`, and the bridge with its change made
+pub record Line (f : ℕ → List ℕ) (b : Bridge) (o : Outcome) (out room : List ℕ) (at : ℕ) (p : Printed) (now : List ℕ) : Type 0 where
+  pub bridge : p .bridge ≡ made (o .change) b
   pub line : Put room at (number (o .answer) ++ each f (take (o .count) out) ++ 0x0A ∷ []) now (p .next)
   pub fits : p .next ≤ length room
 
-pub record Prints (w : World) (e : Event) (room : List ℕ) (at : ℕ) (p : Printed) (memory now : List ℕ) : Type 0 where
-  pub bridge : p .bridge ≡ step w e .next .bridge
-  pub kept : memory ≡ step w e .next .memory
+pub record Prints (w : World) (e : Event) (room : List ℕ) (at : ℕ) (p : Printed) (bytes memory now : List ℕ) : Type 0 where
+  pub next : world (p .bridge) bytes memory ≡ step w e .next
   pub line : Put room at (line e (step w e)) now (p .next)
   pub fits : p .next ≤ length room
 
@@ -47,15 +47,15 @@ abbrev pub turned : Head → Bridge → ℕ → ℕ → Turned
 turned head b used next = record { head = head; bridge = b; used = used; next = next }
 
 -- the first record of the block s was taken, or why it was not
-pub record Turns (last : Bool) (w : World) (s room : List ℕ) (at : ℕ) (t : Turned) (memory now : List ℕ) : Type 0 where
+pub record Turns (last : Bool) (w : World) (s room : List ℕ) (at : ℕ) (t : Turned) (bytes memory now : List ℕ) : Type 0 where
   pub events : List Event
   pub printed : List ℕ
   pub stored : Put room at printed now (t .next)
   pub fits : t .next ≤ length room
   pub inside : t .used ≤ length s
-  pub same : (r : Run) → turnIn (length room - at) last w s r ≡ before events printed (t .used) (remains (t .head) (world (t .bridge) memory) r)
+  pub same : (r : Run) → turnIn (length room - at) last w s r ≡ before events printed (t .used) (remains (t .head) (world (t .bridge) bytes memory) r)
   pub onward : t .head ≡ Whole
-      → (printed ≡ line (eventIn s) (step w (eventIn s))) × (t .used ≡ 4 + lengthOf s) × (world (t .bridge) memory ≡ step w (eventIn s) .next)
+      → (printed ≡ line (eventIn s) (step w (eventIn s))) × (t .used ≡ 4 + lengthOf s) × (world (t .bridge) bytes memory ≡ step w (eventIn s) .next)
 
 -- ---- which head
 

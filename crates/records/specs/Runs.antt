@@ -5,9 +5,8 @@ use mathlib.Core.Bool.{Bool, true, false, cond}
 use mathlib.Core.List.{List, [], _∷_, _++_}
 use lib.ListN.{length, drop}
 use lib.Dec.{ltb}
-use Rattle.rules.specs.declared.Bridge.{Bridge}
 use Rattle.rules.specs.Words.{laid}
-use Rattle.rules.specs.Held.{World}
+use Rattle.rules.specs.Held.{World, world}
 use Rattle.rules.specs.Step.{Event, step, after}
 use Rattle.records.specs.declared.Head.{Head}
 use Rattle.records.specs.declared.Head.the-variants.{Whole, Torn, Part}
@@ -62,27 +61,19 @@ run (suc n) last room w s =
 
 -- everything that a call leaves. A block has no more records than bytes.
 pub record Left : Type 0 where
-  pub bridge : Bridge
+  pub world : World
   pub used : ℕ
   pub written : ℕ
   pub torn : Bool
-  pub memory : List ℕ
   pub output : List ℕ
 
-abbrev pub left : Ran → List ℕ → List ℕ → Left
-left r memory output =
-    record { bridge = r .bridge; used = r .used; written = r .written; torn = r .torn; memory = memory; output = output }
+abbrev pub left : Ran → List ℕ → List ℕ → List ℕ → Left
+left r bytes memory output =
+    record { world = world (r .bridge) bytes memory; used = r .used; written = r .written; torn = r .torn; output = output }
 
 abbrev pub leftBy : Run → List ℕ → Left
 leftBy r output =
-    record {
-      bridge = r .world .bridge;
-      used = r .used;
-      written = length (r .lines);
-      torn = r .torn;
-      memory = r .world .memory;
-      output = laid (r .lines) output;
-    }
+    record { world = r .world; used = r .used; written = length (r .lines); torn = r .torn; output = laid (r .lines) output }
 
 abbrev pub leaves : Bool → World → List ℕ → List ℕ → Left
 leaves last w s output = leftBy (run (length s) last (length output) w s) output

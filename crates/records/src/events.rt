@@ -5,6 +5,7 @@ ghost use mathlib.Core.List.{List};
 ghost use Prim.Native.Nat.{ℕ, _+_, _≤_, min};
 ghost use lib.ListN.{length};
 ghost use Rattle.rules.specs.Held.{world};
+ghost use Rattle.rules.specs.Packets.{signatureOf};
 ghost use Rattle.records.specs.Records.{torn, eventOf, unfinished as cut, headOf};
 ghost use Rattle.records.specs.Lines.{lineMost, hexByte, hexWord};
 ghost use Rattle.records.specs.Printed.{Line, Prints, turned, Turns};
@@ -32,6 +33,9 @@ const PAYLOAD_MOST: u16 = 520;
 const SETUP: usize = 8;
 
 const REPORT_LENGTH: u16 = 6;
+
+// The configuration byte that is the command signature.
+const SIGNATURE: usize = 0x04;
 
 // Two digits, 4,096 bytes of reply with a space before each, and the line's end.
 const LINE_MOST: usize = 12291;
@@ -74,29 +78,29 @@ fn head_of(input: &[u8], last: bool) -> Head
 }
 
 // The line of an outcome whose reply stands in the buffer.
-fn print_bytes(o: Outcome, reply: &[u8], output: &mut [u8], at: usize) -> Printed
+fn print_bytes(b: Bridge, o: Outcome, reply: &[u8], output: &mut [u8], at: usize) -> Printed
     requires { ⌜ (o .count ≤ length (now reply)) × (length (now reply) ≤ 4096) × (at + lineMost ≤ length (now output)) ⌝ }
-    ensures { λ r. ⌜ Line hexByte o (now (reply .entry)) (now (output .entry)) at r (now (output .exit)) ⌝ }
+    ensures { λ r. ⌜ Line hexByte b o (now (reply .entry)) (now (output .entry)) at r (now (output .exit)) ⌝ }
 {
     let next = lines::put_number(o.answer, output, at);
     let next = lines::put_bytes(reply, o.count as usize, output, next);
-    let bridge = o.bridge;
+    let change = o.change;
     Printed {
-        bridge: bridge,
+        bridge: bridge::changed(change, b),
         next: lines::put_end(output, next),
     }
 }
 
 // The line of an outcome whose operations stand in the row.
-fn print_words(o: Outcome, operations: &[u16], output: &mut [u8], at: usize) -> Printed
+fn print_words(b: Bridge, o: Outcome, operations: &[u16], output: &mut [u8], at: usize) -> Printed
     requires { ⌜ (o .count ≤ length (now operations)) × (length (now operations) ≤ 11) × (at + lineMost ≤ length (now output)) ⌝ }
-    ensures { λ r. ⌜ Line hexWord o (now (operations .entry)) (now (output .entry)) at r (now (output .exit)) ⌝ }
+    ensures { λ r. ⌜ Line hexWord b o (now (operations .entry)) (now (output .entry)) at r (now (output .exit)) ⌝ }
 {
     let next = lines::put_number(o.answer, output, at);
     let next = lines::put_words(operations, o.count as usize, output, next);
-    let bridge = o.bridge;
+    let change = o.change;
     Printed {
-        bridge: bridge,
+        bridge: bridge::changed(change, b),
         next: lines::put_end(output, next),
     }
 }
@@ -111,36 +115,37 @@ fn setup_length(n: usize) -> usize
 fn print_control(
     payload: &[u8],
     b: Bridge,
+    bytes: &mut [u8; 16],
     memory: &mut [u8],
     reply: &mut [u8],
     output: &mut [u8],
     at: usize,
 ) -> Printed
     requires { ⌜ (length (now reply) ≡ 4096) × (at + lineMost ≤ length (now output)) ⌝ }
-    ensures { λ r. ⌜ Prints (world b (now (memory .entry))) (eventOf 2 (now (payload .entry))) (now (output .entry)) at r (now (memory .exit)) (now (output .exit)) ⌝ }
+    ensures { λ r. ⌜ Prints (world b (now (bytes .entry)) (now (memory .entry))) (eventOf 2 (now (payload .entry))) (now (output .entry)) at r (now (bytes .exit)) (now (memory .exit)) (now (output .exit)) ⌝ }
 {
     let n = setup_length(payload.len());
-    let o = bridge::control(b, &payload[..n], &payload[n..], memory, reply);
-    print_bytes(o, reply, output, at)
+    let o = bridge::control(b, bytes, &payload[..n], &payload[n..], memory, reply);
+    print_bytes(b, o, reply, output, at)
 }
 
-fn print_packet(payload: &[u8], b: Bridge, output: &mut [u8], at: usize) -> Printed
+fn print_packet(payload: &[u8], b: Bridge, signature: u8, output: &mut [u8], at: usize) -> Printed
     requires { ⌜ at + lineMost ≤ length (now output) ⌝ }
-    ensures { λ r. ⌜ ((m : List ℕ) → Prints (world b m) (eventOf 3 (now (payload .entry))) (now (output .entry)) at r m (now (output .exit))) ⌝ }
+    ensures { λ r. ⌜ ((bytes m : List ℕ) → signatureOf bytes ≡ signature → Prints (world b bytes m) (eventOf 3 (now (payload .entry))) (now (output .entry)) at r bytes m (now (output .exit))) ⌝ }
 {
     let mut operations = [0u16; 11];
-    let o = bridge::packet(b, payload, &mut operations);
-    print_words(o, &operations, output, at)
+    let o = bridge::packet(b, signature, payload, &mut operations);
+    print_words(b, o, &operations, output, at)
 }
 
 // A report holds direction, failed and the amount.
 fn print_report(payload: &[u8], b: Bridge, output: &mut [u8], at: usize) -> Printed
     requires { ⌜ (length (now payload) ≡ 6) × (at + lineMost ≤ length (now output)) ⌝ }
-    ensures { λ r. ⌜ ((m : List ℕ) → Prints (world b m) (eventOf 4 (now (payload .entry))) (now (output .entry)) at r m (now (output .exit))) ⌝ }
+    ensures { λ r. ⌜ ((bytes m : List ℕ) → Prints (world b bytes m) (eventOf 4 (now (payload .entry))) (now (output .entry)) at r bytes m (now (output .exit))) ⌝ }
 {
     let amount = lent::long(payload[2], payload[3], payload[4], payload[5]);
     let o = bridge::report(b, payload[0], payload[1], amount);
-    print_bytes(o, &[], output, at)
+    print_bytes(b, o, &[], output, at)
 }
 
 // The event of a whole record.
@@ -148,22 +153,23 @@ fn print_event(
     kind: u16,
     payload: &[u8],
     b: Bridge,
+    bytes: &mut [u8; 16],
     memory: &mut [u8],
     reply: &mut [u8],
     output: &mut [u8],
     at: usize,
 ) -> Printed
     requires { ⌜ (torn kind (length (now payload)) ≡ false) × (length (now reply) ≡ 4096) × (at + lineMost ≤ length (now output)) ⌝ }
-    ensures { λ r. ⌜ Prints (world b (now (memory .entry))) (eventOf kind (now (payload .entry))) (now (output .entry)) at r (now (memory .exit)) (now (output .exit)) ⌝ }
+    ensures { λ r. ⌜ Prints (world b (now (bytes .entry)) (now (memory .entry))) (eventOf kind (now (payload .entry))) (now (output .entry)) at r (now (bytes .exit)) (now (memory .exit)) (now (output .exit)) ⌝ }
 {
     match kind {
-        BUS_RESET => print_bytes(bridge::bus_reset(b), &[], output, at),
-        CONTROL => print_control(payload, b, memory, reply, output, at),
-        PACKET => print_packet(payload, b, output, at),
+        BUS_RESET => print_bytes(b, bridge::bus_reset(), &[], output, at),
+        CONTROL => print_control(payload, b, bytes, memory, reply, output, at),
+        PACKET => print_packet(payload, b, bytes[SIGNATURE], output, at),
         REPORT => print_report(payload, b, output, at),
         _ => {
             let o = bridge::status(b, reply);
-            print_bytes(o, reply, output, at)
+            print_bytes(b, o, reply, output, at)
         }
     }
 }
@@ -183,6 +189,7 @@ fn untaken(head: Head, b: Bridge, next: usize) -> Turned
 // The first record of a block, where it is whole and there is room for its line.
 pub(crate) fn turn(
     b: Bridge,
+    bytes: &mut [u8; 16],
     input: &[u8],
     last: bool,
     memory: &mut [u8],
@@ -191,7 +198,7 @@ pub(crate) fn turn(
     at: usize,
 ) -> Turned
     requires { ⌜ (length (now reply) ≡ 4096) × (at ≤ length (now output)) ⌝ }
-    ensures { λ t. ⌜ Turns last (world b (now (memory .entry))) (now (input .entry)) (now (output .entry)) at t (now (memory .exit)) (now (output .exit)) ⌝ }
+    ensures { λ t. ⌜ Turns last (world b (now (bytes .entry)) (now (memory .entry))) (now (input .entry)) (now (output .entry)) at t (now (bytes .exit)) (now (memory .exit)) (now (output .exit)) ⌝ }
 {
     if output.len() - at < LINE_MOST {
         return untaken(Head::Part, b, at);
@@ -201,7 +208,7 @@ pub(crate) fn turn(
         Head::Whole => {
             let n = HEADER + lent::word(input[0], input[1]) as usize;
             let kind = lent::word(input[2], input[3]);
-            let p = print_event(kind, &input[HEADER..n], b, memory, reply, output, at);
+            let p = print_event(kind, &input[HEADER..n], b, bytes, memory, reply, output, at);
             let bridge = p.bridge;
             Turned {
                 head: head,

@@ -61,8 +61,15 @@ fn is_torn(head: Head) -> bool
 }
 
 // Takes whole records from the front of a block, as long as there is room for the longest line. `last`: the stream ends with the block.
-pub fn run(b: Bridge, input: &[u8], last: bool, memory: &mut [u8], output: &mut [u8]) -> Ran
-    ensures { λ r. ⌜ left r (now (memory .exit)) (now (output .exit)) ≡ leaves last (world b (now (memory .entry))) (now (input .entry)) (now (output .entry)) ⌝ }
+pub fn run(
+    b: Bridge,
+    bytes: &mut [u8; 16],
+    input: &[u8],
+    last: bool,
+    memory: &mut [u8],
+    output: &mut [u8],
+) -> Ran
+    ensures { λ r. ⌜ left r (now (bytes .exit)) (now (memory .exit)) (now (output .exit)) ≡ leaves last (world b (now (bytes .entry)) (now (memory .entry))) (now (input .entry)) (now (output .entry)) ⌝ }
     ensures { λ r. ⌜ (r .used ≤ length (now (input .entry))) × (r .written ≤ length (now (output .exit))) ⌝ }
 {
     let mut reply = [0u8; 4096];
@@ -75,6 +82,7 @@ pub fn run(b: Bridge, input: &[u8], last: bool, memory: &mut [u8], output: &mut 
     while is_whole(head) & (records > 0) {
         let t = events::turn(
             bridge,
+            bytes,
             &input[used..],
             last,
             memory,

@@ -8,10 +8,13 @@ use Rattle.bench.proofs.serve.Statement.{statement}
 use Rattle.bench.proofs.serve.Tie as tie
 
 abbrev Inv-loop : tie.InvT-loop
-Inv-loop input₀ memory₀ output₀ s₀ turns₀ input memory output s turns = Inside s input × (length input ≡ length input₀) × (length memory ≡ length memory₀) × (length output ≡ length output₀)
+Inv-loop input₀ memory₀ output₀ bytes₀ s₀ turns₀ input memory output bytes s turns = Inside s input × (length input ≡ length input₀) × (length memory ≡ length memory₀) × (length output ≡ length output₀)
 
 abbrev μ-loop : tie.MeasureT-loop
-μ-loop input₀ memory₀ output₀ s₀ turns₀ input memory output s turns = turns
+μ-loop input₀ memory₀ output₀ bytes₀ s₀ turns₀ input memory output bytes s turns = turns
+
+power-on-bytes-requires : tie.Need-power-on-bytes-requires Inv-loop μ-loop
+power-on-bytes-requires c κs = tt
 
 power-on-requires : tie.Need-power-on-requires Inv-loop μ-loop
 power-on-requires c κs = tt
@@ -20,23 +23,23 @@ loop-holds : tie.Need-loop-holds Inv-loop μ-loop
 loop-holds c = ((omega arith, omega arith), refl, refl, refl)
 
 turned-requires : tie.Need-turned-requires Inv-loop μ-loop
-turned-requires c κs = c .before .before .before .before .before .loop .inv .0
+turned-requires c κs = c .before .before .before .before .before .before .loop .inv .0
 
 sub-turns : tie.Need-sub-turns Inv-loop μ-loop
 sub-turns c =
-    let loop = c .before .before .before .before .before .before .before .before .before .before .before .before .loop in
-    let if1 = c .before .before .before .before .before .before .before .before .before .before .if1 in
+    let loop = c .before .before .before .before .before .before .before .before .before .before .before .before .before .loop in
+    let if1 = c .before .before .before .before .before .before .before .before .before .before .before .if1 in
     counts-down (loop .s .going) (loop .turns) (if1 .taken)
 
 loop-less : tie.Need-loop-less Inv-loop μ-loop
 loop-less c =
-    let loop = c .before .before .before .before .before .before .before .before .before .before .before .before .loop in
-    let if1 = c .before .before .before .before .before .before .before .before .before .before .if1 in
+    let loop = c .before .before .before .before .before .before .before .before .before .before .before .before .before .loop in
+    let if1 = c .before .before .before .before .before .before .before .before .before .before .before .if1 in
     omega (arith, counts-down (loop .s .going) (loop .turns) (if1 .taken))
 
 loop-again : tie.Need-loop-again Inv-loop μ-loop
 loop-again c =
-    let loop = c .before .before .before .before .before .before .before .before .before .before .before .before .loop in
+    let loop = c .before .before .before .before .before .before .before .before .before .before .before .before .before .loop in
     let turned = c .before .before .before .before .before .before .turned in
     let input = c .before .before .before .before .before .input in
     let memory = c .before .before .before .memory in
@@ -60,6 +63,7 @@ serve-spec =
     (tie.spec
     Inv-loop
     μ-loop
+    power-on-bytes-requires
     power-on-requires
     loop-holds
     turned-requires

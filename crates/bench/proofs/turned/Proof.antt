@@ -1,6 +1,7 @@
 -- `bench::turned` meets its contract.
 use mathlib.Core.Path.{sym}
 use lib.Seq.{length-take-le}
+use native.Mathlib.Omega.{arith}
 use borrow.Author.Needs.{needs}
 use Rattle.bench.proofs.Parts.{used-inside}
 use Rattle.bench.proofs.turned.Statement.{statement}
@@ -27,12 +28,14 @@ slice-aggregate-write-all c = sym (length-take-le _ _ (c .before .before .before
 write-all-requires : tie.Need-write-all-requires
 write-all-requires c κs = search needs
 
-add-t14 : tie.Need-add-t14
-add-t14 c = search needs
+add-t16 : tie.Need-add-t16
+add-t16 c =
+    let start = c .before .before .before .before .before .before .before .before .before .before .before .before .before .before .before .before .before .before in
+    omega (arith, used-inside (start .args .input .now) (start .pre .0) (start .pre .1) (c .before .before .before .before .before .before .before .before .run .ensures .1 .0))
 
 refilled-requires : tie.Need-refilled-requires
 refilled-requires c κs =
-    let start = c .before .before .before .before .before .before .before .before .before .before .before .before .before .before .before .before .before .before .before .before .before .before .before .before in
+    let start = c .before .before .before .before .before .before .before .before .before .before .before .before .before .before .before .before .before .before .before .before .before .before .before .before .before in
     (used-inside (start .args .input .now) (start .pre .0) (start .pre .1) (c .before .before .before .before .before .before .before .before .before .before .before .before .before .before .before .run .ensures .1 .0), start .pre .1)
 
 same-length : tie.Need-same-length
@@ -58,7 +61,7 @@ same-length-6 c = search needs
 
 returns-2 : tie.Need-returns-2
 returns-2 c =
-    let start = c .before .before .before .before .before .before .before .before .before .before .before .before .before .before .before .before .before .before .before .before .before .before .before in
+    let start = c .before .before .before .before .before .before .before .before .before .before .before .before .before .before .before .before .before .before .before .before .before .before .before .before in
     (used-inside (start .args .input .now) (start .pre .0) (start .pre .1) (c .before .before .before .before .before .before .before .before .before .before .before .before .before .before .run .ensures .1 .0), start .pre .1)
 
 pub turned-spec : {M : Type 1} → statement M
@@ -72,7 +75,7 @@ turned-spec =
     slice-reshare-prefix-write-all
     slice-aggregate-write-all
     write-all-requires
-    add-t14
+    add-t16
     refilled-requires
     same-length
     same-length-2

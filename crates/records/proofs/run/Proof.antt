@@ -13,15 +13,15 @@ use Rattle.records.proofs.run.Statement.{statement}
 use Rattle.records.proofs.run.Tie as tie
 
 abbrev Inv-loop : tie.InvT-loop
-Inv-loop input last memory₀ output₀ reply₀ bridge₀ head₀ used₀ written₀ records₀ memory output reply bridge head used written records =
-    So last input output₀ (run (length input) last (length output₀) (world bridge₀ memory₀) input) bridge memory output head used written records × (length memory ≡ length memory₀) × (length reply ≡ 4096)
+Inv-loop bytes₀ input last memory₀ output₀ reply₀ bridge₀ head₀ used₀ written₀ records₀ bytes memory output reply bridge head used written records =
+    So last input output₀ (run (length input) last (length output₀) (world bridge₀ bytes₀ memory₀) input) (world bridge bytes memory) output head used written records × (length memory ≡ length memory₀) × (length reply ≡ 4096)
 
 abbrev μ-loop : tie.MeasureT-loop
-μ-loop input last memory₀ output₀ reply₀ bridge₀ head₀ used₀ written₀ records₀ memory output reply bridge head used written records =
+μ-loop bytes₀ input last memory₀ output₀ reply₀ bridge₀ head₀ used₀ written₀ records₀ bytes memory output reply bridge head used written records =
     records
 
 loop-holds : tie.Need-loop-holds Inv-loop μ-loop
-loop-holds c = (starts _ _ _ _ _ _ refl, refl, refl)
+loop-holds c = (starts _ _ _ _ _ refl, refl, refl)
 
 is-whole-requires : tie.Need-is-whole-requires Inv-loop μ-loop
 is-whole-requires c κs = tt
@@ -30,47 +30,47 @@ sub-turn : tie.Need-sub-turn Inv-loop μ-loop
 sub-turn c = search needs
 
 part-turn-start : tie.Need-part-turn-start Inv-loop μ-loop
-part-turn-start c = c .before .before .loop .inv .0 .inside
+part-turn-start c = c .before .before .before .loop .inv .0 .inside
 
 part-turn-end : tie.Need-part-turn-end Inv-loop μ-loop
 part-turn-end c = omega arith
 
 slice-aggregate-turn : tie.Need-slice-aggregate-turn Inv-loop μ-loop
-slice-aggregate-turn c = sym (c .before .before .before .before .before .loop .inv .2)
+slice-aggregate-turn c = sym (c .before .before .before .before .before .before .loop .inv .2)
 
 turn-requires : tie.Need-turn-requires Inv-loop μ-loop
 turn-requires c κs =
-    let so = c .before .before .before .before .before .before .loop .inv .0 in
-    (c .before .before .before .before .before .before .loop .inv .2, omega (arith, so .fits, put-length (so .stored)))
+    let so = c .before .before .before .before .before .before .before .loop .inv .0 in
+    (c .before .before .before .before .before .before .before .loop .inv .2, omega (arith, so .fits, put-length (so .stored)))
 
 add-used : tie.Need-add-used Inv-loop μ-loop
 add-used c =
-    let loop = c .before .before .before .before .before .before .before .before .before .before .before .before .before .before .loop in
-    let is-whole = c .before .before .before .before .before .before .before .before .before .before .before .before .before .is-whole in
+    let loop = c .before .before .before .before .before .before .before .before .before .before .before .before .before .before .before .loop in
+    let is-whole = c .before .before .before .before .before .before .before .before .before .before .before .before .before .before .is-whole in
     let turn = c .before .before .before .before .before .before .before .turn in
-    let start = c .before .before .before .before .before .before .before .before .before .before .before .before .before .before .before .before .before .before in
+    let start = c .before .before .before .before .before .before .before .before .before .before .before .before .before .before .before .before .before .before .before in
     let inside : loop .used + turn .result .used ≤ length (start .args .input .now) = used-inside _ _ _ _ (loop .inv .0) (is-whole .ensures) (turn .ensures) in
     omega (arith, inside)
 
 sub-records : tie.Need-sub-records Inv-loop μ-loop
 sub-records c =
-    let loop = c .before .before .before .before .before .before .before .before .before .before .before .before .before .before .loop in
-    let is-whole = c .before .before .before .before .before .before .before .before .before .before .before .before .before .is-whole in
-    let if1 = c .before .before .before .before .before .before .before .before .before .before .before .before .if1 in
+    let loop = c .before .before .before .before .before .before .before .before .before .before .before .before .before .before .before .loop in
+    let is-whole = c .before .before .before .before .before .before .before .before .before .before .before .before .before .before .is-whole in
+    let if1 = c .before .before .before .before .before .before .before .before .before .before .before .before .before .if1 in
     counts-down (is-whole .result) (loop .records) (if1 .taken)
 
 loop-less : tie.Need-loop-less Inv-loop μ-loop
 loop-less c =
-    let loop = c .before .before .before .before .before .before .before .before .before .before .before .before .before .before .loop in
-    let is-whole = c .before .before .before .before .before .before .before .before .before .before .before .before .before .is-whole in
-    let if1 = c .before .before .before .before .before .before .before .before .before .before .before .before .if1 in
+    let loop = c .before .before .before .before .before .before .before .before .before .before .before .before .before .before .before .loop in
+    let is-whole = c .before .before .before .before .before .before .before .before .before .before .before .before .before .before .is-whole in
+    let if1 = c .before .before .before .before .before .before .before .before .before .before .before .before .before .if1 in
     omega (arith, counts-down (is-whole .result) (loop .records) (if1 .taken))
 
 loop-again : tie.Need-loop-again Inv-loop μ-loop
 loop-again c =
-    let loop = c .before .before .before .before .before .before .before .before .before .before .before .before .before .before .loop in
-    let is-whole = c .before .before .before .before .before .before .before .before .before .before .before .before .before .is-whole in
-    let if1 = c .before .before .before .before .before .before .before .before .before .before .before .before .if1 in
+    let loop = c .before .before .before .before .before .before .before .before .before .before .before .before .before .before .before .loop in
+    let is-whole = c .before .before .before .before .before .before .before .before .before .before .before .before .before .before .is-whole in
+    let if1 = c .before .before .before .before .before .before .before .before .before .before .before .before .before .if1 in
     let turn = c .before .before .before .before .before .before .before .turn in
     let memory = c .before .before .before .before .before .before .memory in
     let reply2 = c .before .before .before .before .reply2 in

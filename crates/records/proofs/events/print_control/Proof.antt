@@ -16,9 +16,9 @@ setup-length-requires c κs = search needs
 
 slice-aggregate-control : tie.Need-slice-aggregate-control
 slice-aggregate-control c =
-    let p = c .before .before .before .before .before .before .args .payload .now in
-    let short : c .before .setup-length .result ≡ min (length p) 8 = c .before .setup-length .ensures in
-    sym (length-take-le (c .before .setup-length .result) p (omega (arith, short)))
+    let p = c .before .before .before .before .before .before .before .args .payload .now in
+    let short : c .before .before .setup-length .result ≡ min (length p) 8 = c .before .before .setup-length .ensures in
+    sym (length-take-le (c .before .before .setup-length .result) p (omega (arith, short)))
 
 sub-control : tie.Need-sub-control
 sub-control c = search needs
@@ -34,10 +34,10 @@ control-requires c κs = search needs
 
 print-bytes-requires : tie.Need-print-bytes-requires
 print-bytes-requires c κs =
-    let start = c .before .before .before .before .before .before .before .before .before .before .before .before .before .before .before .before in
+    let start = c .before .before .before .before .before .before .before .before .before .before .before .before .before .before .before .before .before in
     let p = start .args .payload .now in
-    let n = c .before .before .before .before .before .before .before .before .before .before .before .setup-length .result in
-    let fits = count-fits (world (start .args .b) (start .args .memory .now)) (Control (take n p) (take (length p - n) (drop n p))) (start .args .reply .now) (c .before .before .before .before .before .before .control .result) _ _ (c .before .before .before .before .before .before .control .ensures) (c .before .before .before .reply .given) in
+    let n = c .before .before .before .before .before .before .before .before .before .before .before .before .setup-length .result in
+    let fits = count-fits (world (start .args .b) (start .args .bytes .now) (start .args .memory .now)) (Control (take n p) (take (length p - n) (drop n p))) (start .args .reply .now) (c .before .before .before .before .before .before .control .result) _ _ _ (c .before .before .before .before .before .before .control .ensures) (c .before .before .before .reply .given) in
     (fits, omega (arith, c .before .before .before .reply .given, start .pre .0), start .pre .1)
 
 same-length : tie.Need-same-length
@@ -51,8 +51,8 @@ same-length-3 c = search needs
 
 returns : tie.Need-returns
 returns c =
-    let start = c .before .before .before .before .before .before .before .before .before .before .before .before .before .before .before .before .before .before .before in
-    control-prints (world (start .args .b) (start .args .memory .now)) (start .args .payload .now) (start .args .reply .now) (c .before .before .before .before .before .before .before .before .before .before .before .before .before .before .setup-length .ensures) (start .pre .0) (c .before .before .before .before .before .before .before .before .before .control .ensures) (c .before .before .print-bytes .ensures)
+    let start = c .before .before .before .before .before .before .before .before .before .before .before .before .before .before .before .before .before .before .before .before in
+    control-prints (world (start .args .b) (start .args .bytes .now) (start .args .memory .now)) (start .args .payload .now) (start .args .reply .now) (c .before .before .before .before .before .before .before .before .before .before .before .before .before .before .before .setup-length .ensures) (start .pre .0) (c .before .before .before .before .before .before .before .before .before .control .ensures) (c .before .before .print-bytes .ensures)
 
 pub print-control-spec : {M : Type 1} → statement M
 print-control-spec =

@@ -1,7 +1,8 @@
 -- `records::events::print_packet` meets its contract.
 use lib.ListN.{replicate}
 use mathlib.Core.Path.{refl}
-use mathlib.Core.List.{[]}
+use mathlib.Core.List.{List, [], _∷_}
+use Prim.Native.Nat.{ℕ}
 use native.Mathlib.Omega.{arith}
 use borrow.Author.Needs.{needs}
 use Rattle.rules.specs.Held.{world}
@@ -24,7 +25,8 @@ slice-aggregate-print-words c = search needs
 print-words-requires : tie.Need-print-words-requires
 print-words-requires c κs =
     let start = c .before .before .before .before .before .before .before in
-    let fits = count-fits (world (start .args .b) []) (Packet (start .args .payload .now)) (replicate 11 0) (c .before .before .before .packet .result) [] _ (c .before .before .before .packet .ensures []) (c .before .before .operations2 .given) in
+    let bytes : List ℕ = 0 ∷ 0 ∷ 0 ∷ 0 ∷ start .args .signature ∷ [] in
+    let fits = count-fits (world (start .args .b) bytes []) (Packet (start .args .payload .now)) (replicate 11 0) (c .before .before .before .packet .result) bytes [] _ (c .before .before .before .packet .ensures bytes [] refl) (c .before .before .operations2 .given) in
     (fits, omega (arith, c .before .before .operations2 .given), start .pre)
 
 same-length : tie.Need-same-length
@@ -36,7 +38,7 @@ returns c =
     let start = c .before .before .before .before .before .before .before .before .before .before in
     let packet = c .before .before .before .before .before .before .packet in
     let print-words = c .before .before .print-words in
-    λ m. prints (world (start .args .b) m) (Packet (start .args .payload .now)) (replicate 11 0) (packet .result) m _ (packet .ensures m) hexWord refl (print-words .ensures)
+    λ bytes m h. prints (world (start .args .b) bytes m) (Packet (start .args .payload .now)) (replicate 11 0) (packet .result) bytes m _ (packet .ensures bytes m h) hexWord refl (print-words .ensures)
 
 pub print-packet-spec : {M : Type 1} → statement M
 print-packet-spec =

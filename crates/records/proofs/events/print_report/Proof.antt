@@ -43,7 +43,7 @@ print-bytes-requires : tie.Need-print-bytes-requires
 print-bytes-requires c κs =
     let start = c .before .before .before .before .before .before .before .before .before .before .before .before in
     let report = Report (byte 0 (start .args .payload .now)) (byte 1 (start .args .payload .now)) (c .before .before .before .before .before .long .result) in
-    let fits = count-fits (world (start .args .b) []) (λ n. report) [] (c .before .before .report .result) [] [] (c .before .before .report .ensures []) refl in
+    let fits = count-fits (world (start .args .b) [] []) (λ n. report) [] (c .before .before .report .result) [] [] [] (c .before .before .report .ensures [] []) refl in
     (fits, omega arith, start .pre .1)
 
 same-length : tie.Need-same-length
@@ -57,7 +57,7 @@ returns c =
     let report = c .before .before .before .before .before .report in
     let print-bytes = c .before .before .print-bytes in
     let p = start .args .payload .now in
-    λ m. prints (world (start .args .b) m) (λ n. Report (byte 0 p) (byte 1 p) (long 2 p)) [] (report .result) m [] (rw (← the-long .ensures) (report .ensures m)) hexByte refl (print-bytes .ensures)
+    λ bytes m. prints (world (start .args .b) bytes m) (λ n. Report (byte 0 p) (byte 1 p) (long 2 p)) [] (report .result) bytes m [] (rw (← the-long .ensures) (report .ensures bytes m)) hexByte refl (print-bytes .ensures)
 
 pub print-report-spec : {M : Type 1} → statement M
 print-report-spec =

@@ -1,5 +1,4 @@
 -- `records::events::print_words` meets its contract.
-use mathlib.Core.Path.{refl}
 use native.Mathlib.Omega.{arith}
 use borrow.Author.Needs.{needs}
 use Rattle.records.proofs.Rows.{hexWord-length, shown-fits, end-fits, line-put}
@@ -18,6 +17,9 @@ put-words-requires c κs =
     let start = c .before .before .before .before .before .before .before .before in
     (start .pre .0, omega (arith, shown-fits hexWord 5 hexWord-length (start .args .o .answer) (start .args .operations .now) _ (start .pre .0) (omega arith) (start .pre .2) (c .before .before .before .before .put-number .ensures)))
 
+changed-requires : tie.Need-changed-requires
+changed-requires c κs = search needs
+
 put-end-requires : tie.Need-put-end-requires
 put-end-requires c κs =
     let start = c .before .before .before .before .before .before .before .before .before .before .before .before .before in
@@ -30,7 +32,7 @@ returns : tie.Need-returns
 returns c =
     let start = c .before .before .before .before .before .before .before .before .before .before .before .before .before .before .before .before in
     let line = line-put hexWord 5 hexWord-length (start .args .o .answer) (start .args .operations .now) _ (start .pre .0) (omega arith) (start .pre .2) (c .before .before .before .before .before .before .before .before .before .before .before .before .put-number .ensures) (c .before .before .before .before .before .before .before .put-words .ensures) (c .before .before .put-end .ensures) in
-    record { bridge = refl; line = line .0; fits = line .1 }
+    record { bridge = c .before .before .before .before .changed .ensures; line = line .0; fits = line .1 }
 
 pub print-words-spec : {M : Type 1} → statement M
 print-words-spec =
@@ -39,6 +41,7 @@ print-words-spec =
     put-number-requires
     cast-put-words
     put-words-requires
+    changed-requires
     put-end-requires
     same-length
     returns)

@@ -15,7 +15,7 @@ untaken-requires c κs = search needs
 returns : tie.Need-returns
 returns c =
     let start = c .before .before .before .before .before .before in
-    rw (c .untaken .ensures) (no-room (start .args .last) (start .args .b) (start .args .memory .now) (start .args .input .now) (start .args .output .now) (start .args .at) (start .pre .1) (c .before .if1 .taken))
+    rw (c .untaken .ensures) (no-room (start .args .last) (start .args .b) (start .args .bytes .now) (start .args .memory .now) (start .args .input .now) (start .args .output .now) (start .args .at) (start .pre .1) (c .before .if1 .taken))
 
 head-of-requires : tie.Need-head-of-requires
 head-of-requires c κs = search needs
@@ -68,17 +68,17 @@ part-print-event-end c =
     let head-of = c .before .before .before .before .before .before .before .before .head-of in
     let enum-told = c .before .before .before .before .before .before .enum-told in
     let word = c .before .before .before .word in
-    ends-inside (start .args .last) (start .args .b) (start .args .memory .now) (start .args .input .now) (start .args .output .now) (start .args .at) (start .pre .1) (if1 .left) (head-of .ensures) (enum-told .given .1) (word .ensures) (c .word2 .ensures)
+    ends-inside (start .args .last) (start .args .b) (start .args .bytes .now) (start .args .memory .now) (start .args .input .now) (start .args .output .now) (start .args .at) (start .pre .1) (if1 .left) (head-of .ensures) (enum-told .given .1) (word .ensures) (c .word2 .ensures)
 
 print-event-requires : tie.Need-print-event-requires
 print-event-requires c κs =
-    let if1 = c .before .before .before .before .before .before .before .before .before .before .before .before .before .if1 in
-    let head-of = c .before .before .before .before .before .before .before .before .before .before .before .before .head-of in
-    let enum-told = c .before .before .before .before .before .before .before .before .before .before .enum-told in
-    let word = c .before .before .before .before .before .before .before .word in
-    let word2 = c .before .before .before .before .word2 in
-    let start = c .before .before .before .before .before .before .before .before .before .before .before .before .before .before .before .before .before .before in
-    (not-torn (start .args .last) (start .args .b) (start .args .memory .now) (start .args .input .now) (start .args .output .now) (start .args .at) (start .pre .1) (if1 .left) (head-of .ensures) (enum-told .given .1) (word .ensures) (word2 .ensures), start .pre .0, omega (arith, if1 .left, start .pre .1))
+    let if1 = c .before .before .before .before .before .before .before .before .before .before .before .before .before .before .if1 in
+    let head-of = c .before .before .before .before .before .before .before .before .before .before .before .before .before .head-of in
+    let enum-told = c .before .before .before .before .before .before .before .before .before .before .before .enum-told in
+    let word = c .before .before .before .before .before .before .before .before .word in
+    let word2 = c .before .before .before .before .before .word2 in
+    let start = c .before .before .before .before .before .before .before .before .before .before .before .before .before .before .before .before .before .before .before in
+    (not-torn (start .args .last) (start .args .b) (start .args .bytes .now) (start .args .memory .now) (start .args .input .now) (start .args .output .now) (start .args .at) (start .pre .1) (if1 .left) (head-of .ensures) (enum-told .given .1) (word .ensures) (word2 .ensures), start .pre .0, omega (arith, if1 .left, start .pre .1))
 
 enum-told-2 : tie.Need-enum-told-2
 enum-told-2 c = search needs
@@ -106,14 +106,14 @@ same-length-3 c = search needs
 
 returns-2 : tie.Need-returns-2
 returns-2 c =
-    let if1 = c .before .before .before .before .before .before .before .before .before .before .before .before .before .before .before .before .before .before .before .before .before .if1 in
-    let head-of = c .before .before .before .before .before .before .before .before .before .before .before .before .before .before .before .before .before .before .before .before .head-of in
-    let enum-told = c .before .before .before .before .before .before .before .before .before .before .before .before .before .before .before .before .before .before .enum-told in
-    let word = c .before .before .before .before .before .before .before .before .before .before .before .before .before .before .before .word in
-    let word2 = c .before .before .before .before .before .before .before .before .before .before .before .before .word2 in
+    let if1 = c .before .before .before .before .before .before .before .before .before .before .before .before .before .before .before .before .before .before .before .before .before .before .if1 in
+    let head-of = c .before .before .before .before .before .before .before .before .before .before .before .before .before .before .before .before .before .before .before .before .before .head-of in
+    let enum-told = c .before .before .before .before .before .before .before .before .before .before .before .before .before .before .before .before .before .before .before .enum-told in
+    let word = c .before .before .before .before .before .before .before .before .before .before .before .before .before .before .before .before .word in
+    let word2 = c .before .before .before .before .before .before .before .before .before .before .before .before .before .word2 in
     let print-event = c .before .before .before .before .before .before .before .print-event in
-    let start = c .before .before .before .before .before .before .before .before .before .before .before .before .before .before .before .before .before .before .before .before .before .before .before .before .before .before in
-    whole-taken (start .args .last) (start .args .b) (start .args .memory .now) (start .args .input .now) (start .args .output .now) (start .args .at) (start .pre .1) (if1 .left) (head-of .ensures) (enum-told .given .1) (word .ensures) (word2 .ensures) (print-event .ensures)
+    let start = c .before .before .before .before .before .before .before .before .before .before .before .before .before .before .before .before .before .before .before .before .before .before .before .before .before .before .before in
+    whole-taken (start .args .last) (start .args .b) (start .args .bytes .now) (start .args .memory .now) (start .args .input .now) (start .args .output .now) (start .args .at) (start .pre .1) (if1 .left) (head-of .ensures) (enum-told .given .1) (word .ensures) (word2 .ensures) (print-event .ensures)
 
 same-length-4 : tie.Need-same-length-4
 same-length-4 c = search needs
@@ -126,13 +126,13 @@ returns-3 c =
     let put-torn = c .before .before .before .put-torn in
     let start = c .before .before .before .before .before .before .before .before .before .before .before .before .before in
     rw (c .untaken2 .ensures)
-    (torn-taken (start .args .last) (start .args .b) (start .args .memory .now) (start .args .input .now) (start .args .output .now) (start .args .at) (start .pre .1) (if1 .left) (head-of .ensures) (enum-told2 .given .1) (put-torn .ensures))
+    (torn-taken (start .args .last) (start .args .b) (start .args .bytes .now) (start .args .memory .now) (start .args .input .now) (start .args .output .now) (start .args .at) (start .pre .1) (if1 .left) (head-of .ensures) (enum-told2 .given .1) (put-torn .ensures))
 
 returns-4 : tie.Need-returns-4
 returns-4 c =
     let start = c .before .before .before .before .before .before .before .before .before in
     rw (c .untaken3 .ensures)
-    (part-taken (start .args .last) (start .args .b) (start .args .memory .now) (start .args .input .now) (start .args .output .now) (start .args .at) (start .pre .1) (c .before .before .before .before .if1 .left) (c .before .before .before .head-of .ensures) (c .before .enum-told3 .given .1))
+    (part-taken (start .args .last) (start .args .b) (start .args .bytes .now) (start .args .memory .now) (start .args .input .now) (start .args .output .now) (start .args .at) (start .pre .1) (c .before .before .before .before .if1 .left) (c .before .before .before .head-of .ensures) (c .before .enum-told3 .given .1))
 
 pub turn-spec : {M : Type 1} → statement M
 turn-spec =
