@@ -11,14 +11,14 @@ SESSION = sessions/written/worked-case.txt
 EVENTS = 1000000
 SEED = 1
 
-c11 = -std=c11 -Wall -Wextra -Wpedantic -Werror
+c11 = -std=c11 -Wall -Wextra -Wpedantic -Werror -Ihost
 strict = $(c11) -O2
 crates := crates.txt $(shell find crates -type f -not -path '*/must-fail/*')
-headers := $(wildcard host/*.h)
+headers := $(wildcard host/*.h check/*.h)
 records = host/record.c host/command.c
 replay = host/replay.c host/explain.c host/bench.c $(records)
-second = host/standin.c host/second_bridge.c
-measure = host/measure.c host/measured.c $(records)
+second = check/standin.c check/second_bridge.c
+measure = check/measure.c check/measured.c $(records)
 proving = @echo 'proving the crates (some minutes at first)'
 
 all: build/bench build/replay build/second build/session build/generate
@@ -63,7 +63,7 @@ build/x86-64/replay: $(replay) target/staticlib/libthrandue.a $(headers)
 
 # Both bridges at -O3 by the compiler that made the archive, and one program that calls them. Their calls return to where it made them, so that
 # they can be told from their caller.
-build/figures/%.o: host/%.c $(headers) $(wildcard tools/freestanding/*.h)
+build/figures/%.o: check/%.c $(headers) $(wildcard tools/freestanding/*.h)
 	@mkdir -p $(@D)
 	tools/x86 clang $(c11) -O3 -ffunction-sections -fno-asynchronous-unwind-tables -c -o $@ $<
 
@@ -76,7 +76,7 @@ build/figures/thrandue build/figures/second: $(headers)
 
 build/second: $(replay) $(second)
 build/session: host/session.c $(records)
-build/generate: host/generate.c host/bench.c $(records) $(second)
+build/generate: check/generate.c host/bench.c $(records) $(second)
 build/second build/session build/generate: $(headers)
 	@mkdir -p $(@D)
 	@tools/need cc gcc libc6-dev

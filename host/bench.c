@@ -61,12 +61,12 @@ static void *room(size_t bytes) {
 
 void bench_open(struct bench *bench, struct bench_sizes sizes) {
     bench->sizes = sizes;
-    bench->image = room(THRANDUE_IMAGE);
+    bench->image = room(sizeof *bench->image);
     bench->memory = room(sizes.memory);
     bench->reply = room(sizes.reply);
     bench->operations = room(sizes.operations * sizeof *bench->operations);
     bench->payload = room(RECORD_PAYLOAD_MOST);
-    thrandue_power_on(bench->image, THRANDUE_IMAGE);
+    thrandue_power_on(bench->image);
 }
 
 void bench_close(struct bench *bench) {
@@ -79,7 +79,7 @@ void bench_close(struct bench *bench) {
 
 static uint32_t control_event(struct bench *bench, const uint8_t *payload, size_t length) {
     size_t setup_len = length < SETUP_LENGTH ? length : SETUP_LENGTH;
-    return thrandue_control(bench->image, THRANDUE_IMAGE, payload, setup_len, payload + setup_len,
+    return thrandue_control(bench->image, payload, setup_len, payload + setup_len,
                             length - setup_len, bench->memory, bench->sizes.memory, bench->reply,
                             bench->sizes.reply);
 }
@@ -90,16 +90,15 @@ uint32_t bench_event(struct bench *bench, const struct record *record) {
     memcpy(payload, record->payload, record->length);
     switch (record->kind) {
     case RECORD_BUS_RESET:
-        return thrandue_bus_reset(bench->image, THRANDUE_IMAGE);
+        return thrandue_bus_reset(bench->image);
     case RECORD_CONTROL:
         return control_event(bench, payload, record->length);
     case RECORD_PACKET:
-        return thrandue_packet(bench->image, THRANDUE_IMAGE, payload, record->length,
-                               bench->operations, bench->sizes.operations);
+        return thrandue_packet(bench->image, payload, record->length, bench->operations,
+                               bench->sizes.operations);
     case RECORD_REPORT:
-        return thrandue_report(bench->image, THRANDUE_IMAGE, payload[0], payload[1],
-                               record_load(payload + 2, 4));
+        return thrandue_report(bench->image, payload[0], payload[1], record_load(payload + 2, 4));
     default:
-        return thrandue_status(bench->image, THRANDUE_IMAGE, bench->reply, bench->sizes.reply);
+        return thrandue_status(bench->image, bench->reply, bench->sizes.reply);
     }
 }

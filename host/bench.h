@@ -16,7 +16,7 @@ struct bench_sizes {
 
 struct bench {
     struct bench_sizes sizes;
-    uint8_t *image;
+    thrandue_image *image;
     uint8_t *memory;
     uint8_t *reply;
     uint16_t *operations;

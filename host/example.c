@@ -37,32 +37,32 @@ static const char *on_the_wire(enum source source, uint32_t outcome) {
 }
 
 int main(void) {
-    static uint8_t image[THRANDUE_IMAGE], memory[2048];
+    static thrandue_image image;
+    static uint8_t memory[2048];
     uint16_t operations[11];
     uint8_t reply[64];
-    thrandue_power_on(image, sizeof image);
+    thrandue_power_on(&image);
     for (size_t i = 0; i < sizeof arrivals / sizeof arrivals[0]; i++) {
         const struct arrival *a = &arrivals[i];
         uint32_t outcome = 0;
         switch (a->source) {
         case CONTROL:
-            outcome = thrandue_control(image, sizeof image, a->bytes, a->length, NULL, 0, memory,
-                                       sizeof memory, reply, sizeof reply);
+            outcome = thrandue_control(&image, a->bytes, a->length, NULL, 0, memory, sizeof memory,
+                                       reply, sizeof reply);
             break;
         case BULK_OUT:
-            outcome = thrandue_packet(image, sizeof image, a->bytes, a->length, operations,
+            outcome = thrandue_packet(&image, a->bytes, a->length, operations,
                                       sizeof operations / sizeof operations[0]);
             break;
         case DRIVE:
-            outcome = thrandue_report(image, sizeof image, 0, 0, 0);
+            outcome = thrandue_report(&image, 0, 0, 0);
             break;
         case BULK_IN:
-            outcome = thrandue_status(image, sizeof image, reply, sizeof reply);
+            outcome = thrandue_status(&image, reply, sizeof reply);
             break;
         }
         printf("%s, answer %u, phase %u, halts %u:", on_the_wire(a->source, outcome),
-               thrandue_answer(outcome), thrandue_phase(image, sizeof image),
-               thrandue_halts(image, sizeof image));
+               thrandue_answer(outcome), thrandue_phase(&image), thrandue_halts(&image));
         for (uint32_t k = 0; k < thrandue_count(outcome); k++)
             printf(a->source == BULK_OUT ? " %04X" : " %02X",
                    a->source == BULK_OUT ? operations[k] : reply[k]);

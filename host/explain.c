@@ -323,8 +323,8 @@ void explain_event(const struct bench *bench, const struct record *record, uint3
     printf(" | %u %s", answer, meaning == NULL ? "not an answer of document 01" : meaning);
     if (answer == THRANDUE_DONE)
         explain_handed_out(bench, record->kind, thrandue_count(outcome));
-    printf(" | configuration %u", (unsigned)thrandue_configuration(bench->image, THRANDUE_IMAGE));
-    show_word(phases, "phase", 2, thrandue_phase(bench->image, THRANDUE_IMAGE));
-    show_word(halts, "halts", 2, thrandue_halts(bench->image, THRANDUE_IMAGE));
+    printf(" | configuration %u", (unsigned)thrandue_configuration(bench->image));
+    show_word(phases, "phase", 2, thrandue_phase(bench->image));
+    show_word(halts, "halts", 2, thrandue_halts(bench->image));
     putchar('\n');
 }

@@ -10,20 +10,23 @@
 extern "C" {
 #endif
 
-/* The state is an image of THRANDUE_IMAGE bytes that the caller keeps. thrandue_power_on makes it;
- * any bytes stand for some state, and only the calls below write it. Two images of one state may
- * differ: what a finished command held stays in them until the next.
- *
- * The caller answers for this: pointers are valid for their lengths and do not overlap; the same
- * memory is lent at every thrandue_control, and nobody else writes it; one call at a time. A slice
- * of length 0 may be NULL. Any length and content of every slice, and any number, gets an answer.
- */
-#define THRANDUE_IMAGE 25
+/* The state of a bridge, as an image that the caller keeps and hands over by its address.
+ * thrandue_power_on makes it, and only the calls below write it. Any bytes stand for some state,
+ * and two images of one state may differ: what a finished command held stays in them until the
+ * next. */
+typedef struct thrandue_image {
+    uint8_t bytes[29];
+} thrandue_image;
+
+/* The caller answers for this: pointers are valid for their type or their length, and do not
+ * overlap; the same memory is lent at every thrandue_control, and nobody else writes it; one call
+ * at a time. A slice of length 0 may be NULL. Any length and content of every slice, any number and
+ * any image gets an answer. */
 
 /* Every event returns an outcome: the answer in the low byte, and above it how many reply bytes or
  * operations were handed out. They stand at the front of the lent room, and the rest of the room is
- * unchanged. Any answer but THRANDUE_DONE hands out nothing and changes no lent byte; only the two
- * for a damaged packet change the state, by stopping the bridge. */
+ * unchanged. Any answer but THRANDUE_DONE hands out nothing and changes no lent byte and no byte of
+ * the image, save the two for a damaged packet, which stop the bridge. */
 static inline uint8_t thrandue_answer(uint32_t outcome) {
     return (uint8_t)(outcome & 0xFF);
 }
@@ -53,37 +56,35 @@ enum {
     THRANDUE_NOT_MEANINGFUL = 14,
     THRANDUE_OPERATION_ROOM = 15,
     THRANDUE_WRONG_PHASE = 16,
-    THRANDUE_MALFORMED = 17,
-    THRANDUE_NO_IMAGE = 255 /* the image has another length; nothing is read or written */
+    THRANDUE_MALFORMED = 17
 };
 
 /* The image becomes that of a bridge at power-on, whatever it held. Answers DONE. */
-uint32_t thrandue_power_on(uint8_t *image, size_t image_len);
+uint32_t thrandue_power_on(thrandue_image *image);
 
 /* Configuration 0, awaiting a command, no halts; the configuration bytes and the memory stay.
  * Answers DONE. */
-uint32_t thrandue_bus_reset(uint8_t *image, size_t image_len);
+uint32_t thrandue_bus_reset(thrandue_image *image);
 
 /* A control request: its setup bytes, the data that the host sent with it, and room for the reply.
  * A legal write changes exactly its addressed bytes, of the configuration or of the memory. */
-uint32_t thrandue_control(uint8_t *image, size_t image_len, const uint8_t *setup, size_t setup_len,
+uint32_t thrandue_control(thrandue_image *image, const uint8_t *setup, size_t setup_len,
                           const uint8_t *host, size_t host_len, uint8_t *memory, size_t memory_len,
                           uint8_t *reply, size_t reply_len);
 
 /* A command packet on the bulk-out pipe: hands out the register operations of its block, each the
  * kind in the high byte and the operand in the low byte. Eleven are always enough room. */
-uint32_t thrandue_packet(uint8_t *image, size_t image_len, const uint8_t *packet, size_t packet_len,
+uint32_t thrandue_packet(thrandue_image *image, const uint8_t *packet, size_t packet_len,
                          uint16_t *operations, size_t operations_len);
 
 /* The drive is done with the operations: direction 0 none, 1 in, 2 out; failed 0 or 1; the amount
  * of bytes that it moved. */
-uint32_t thrandue_report(uint8_t *image, size_t image_len, uint8_t direction, uint8_t failed,
-                         uint32_t amount);
+uint32_t thrandue_report(thrandue_image *image, uint8_t direction, uint8_t failed, uint32_t amount);
 
 /* A status request on the bulk-in pipe: hands out the status packet of 13 bytes. */
-uint32_t thrandue_status(uint8_t *image, size_t image_len, uint8_t *reply, size_t reply_len);
+uint32_t thrandue_status(thrandue_image *image, uint8_t *reply, size_t reply_len);
 
-/* What the image says; THRANDUE_NO_IMAGE for one of another length. The phase: */
+/* What the image says. The phase: */
 enum {
     THRANDUE_AWAITING = 0,
     THRANDUE_BUSY = 1,
@@ -91,17 +92,17 @@ enum {
     THRANDUE_STOPPED = 3,
     THRANDUE_STOPPED_RESET = 4 /* stopped, and a Mass Storage Reset has come */
 };
-uint8_t thrandue_phase(const uint8_t *image, size_t image_len);
+uint8_t thrandue_phase(const thrandue_image *image);
 
 /* The USB configuration: 0 or 2. */
-uint8_t thrandue_configuration(const uint8_t *image, size_t image_len);
+uint8_t thrandue_configuration(const thrandue_image *image);
 
 /* The halted bulk pipes, a bit each. */
 enum {
     THRANDUE_HALT_OUT = 0x01,
     THRANDUE_HALT_IN = 0x02
 };
-uint8_t thrandue_halts(const uint8_t *image, size_t image_len);
+uint8_t thrandue_halts(const thrandue_image *image);
 
 #ifdef __cplusplus
 }

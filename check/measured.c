@@ -7,13 +7,11 @@
 #ifdef MEASURES_SECOND
 #include "second_bridge.h"
 #define BRIDGE(call) second_##call
-#define STATE &lent.state
 typedef struct second_bridge bridge_state;
 #else
 #include "thrandue.h"
 #define BRIDGE(call) thrandue_##call
-#define STATE lent.state, sizeof lent.state
-typedef uint8_t bridge_state[THRANDUE_IMAGE];
+typedef thrandue_image bridge_state;
 #endif
 
 enum {
@@ -34,7 +32,7 @@ const size_t measured_state_size = sizeof lent.state;
 const size_t measured_memory_size = sizeof lent.memory;
 
 void measured_power_on(void) {
-    BRIDGE(power_on)(STATE);
+    BRIDGE(power_on)(&lent.state);
 }
 
 uint32_t measured_event(const struct record *record) {
@@ -42,16 +40,16 @@ uint32_t measured_event(const struct record *record) {
     size_t setup = record->length < SETUP_LENGTH ? record->length : SETUP_LENGTH;
     switch (record->kind) {
     case RECORD_BUS_RESET:
-        return BRIDGE(bus_reset)(STATE);
+        return BRIDGE(bus_reset)(&lent.state);
     case RECORD_CONTROL:
-        return BRIDGE(control)(STATE, payload, setup, payload + setup, record->length - setup,
+        return BRIDGE(control)(&lent.state, payload, setup, payload + setup, record->length - setup,
                                lent.memory, sizeof lent.memory, lent.reply, sizeof lent.reply);
     case RECORD_PACKET:
-        return BRIDGE(packet)(STATE, payload, record->length, lent.operations, OPERATIONS);
+        return BRIDGE(packet)(&lent.state, payload, record->length, lent.operations, OPERATIONS);
     case RECORD_REPORT:
-        return BRIDGE(report)(STATE, payload[0], payload[1], record_load(payload + 2, 4));
+        return BRIDGE(report)(&lent.state, payload[0], payload[1], record_load(payload + 2, 4));
     default:
-        return BRIDGE(status)(STATE, lent.reply, sizeof lent.reply);
+        return BRIDGE(status)(&lent.state, lent.reply, sizeof lent.reply);
     }
 }
 

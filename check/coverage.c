@@ -189,7 +189,7 @@ static bool same_from(size_t from, const void *one, const void *other, size_t by
 static void remember(struct coverage *coverage) {
     const struct bench *bench = &coverage->bench;
     struct bench *before = &coverage->before;
-    copy(before->image, bench->image, THRANDUE_IMAGE);
+    *before->image = *bench->image;
     copy(before->memory, bench->memory, bench->sizes.memory);
     copy(before->reply, bench->reply, bench->sizes.reply);
     copy(before->operations, bench->operations, bench->sizes.operations * sizeof(uint16_t));
@@ -206,7 +206,7 @@ static bool keeps_the_rest(const struct coverage *coverage, enum event event, ui
     if (answer != 0 && thrandue_count(outcome) != 0)
         return false;
     if (answer != 0 && answer != 13 && answer != 14 &&
-        !same_from(0, bench->image, before->image, THRANDUE_IMAGE))
+        !same_from(0, bench->image, before->image, sizeof *bench->image))
         return false;
     if ((event != LOAD_CONFIG_DATA || answer != 0) &&
         !same_from(0, bench->memory, before->memory, bench->sizes.memory))
@@ -219,7 +219,7 @@ static bool keeps_the_rest(const struct coverage *coverage, enum event event, ui
 static void count_event(void *context, const struct record *record) {
     struct coverage *coverage = context;
     enum event event = event_of(record);
-    uint8_t phase = thrandue_phase(coverage->bench.image, THRANDUE_IMAGE);
+    uint8_t phase = thrandue_phase(coverage->bench.image);
     remember(coverage);
     uint32_t outcome = bench_event(&coverage->bench, record);
     uint8_t answer = thrandue_answer(outcome);

@@ -226,8 +226,8 @@ static void control(struct generator *g) {
 static uint8_t command_signature(struct generator *g) {
     static const uint8_t read_signature[SETUP_LENGTH] = {0xC0, 0x02, 0x00, 0x00, 0x04, 0x00, 1, 0};
     uint8_t signature = 0x24;
-    thrandue_control(g->bench.image, THRANDUE_IMAGE, read_signature, sizeof read_signature, NULL, 0,
-                     NULL, 0, &signature, 1);
+    thrandue_control(g->bench.image, read_signature, sizeof read_signature, NULL, 0, NULL, 0,
+                     &signature, 1);
     return signature;
 }
 
@@ -358,11 +358,11 @@ static void anything(struct generator *g) {
 
 /* What moves on from the phase: what a host would send next. */
 static void next_step(struct generator *g) {
-    uint8_t halts = thrandue_halts(g->bench.image, THRANDUE_IMAGE);
+    uint8_t halts = thrandue_halts(g->bench.image);
     uint32_t halted = halts & THRANDUE_HALT_IN ? ENDPOINT_IN : ENDPOINT_OUT;
     if (halts == (THRANDUE_HALT_IN | THRANDUE_HALT_OUT))
         halted = pipe_index(g);
-    switch (thrandue_phase(g->bench.image, THRANDUE_IMAGE)) {
+    switch (thrandue_phase(g->bench.image)) {
     case THRANDUE_AWAITING:
         if (halts != 0 && chance(g, 50))
             setup(g, CLEAR_FEATURE, 0, halted, 0);
@@ -389,8 +389,8 @@ static void next_step(struct generator *g) {
 /* Each phase lasts long enough to meet every kind of event, and ends often enough. */
 static void compose(struct generator *g) {
     static const uint8_t percent_of_next_steps[] = {40, 10, 15, 4, 4};
-    bool configured = thrandue_configuration(g->bench.image, THRANDUE_IMAGE) != 0;
-    uint8_t phase = thrandue_phase(g->bench.image, THRANDUE_IMAGE);
+    bool configured = thrandue_configuration(g->bench.image) != 0;
+    uint8_t phase = thrandue_phase(g->bench.image);
     if (!configured && chance(g, 25))
         setup(g, SET_CONFIGURATION, 2, 0, 0);
     else if (configured && chance(g, percent_of_next_steps[phase]))
