@@ -25,7 +25,7 @@ use Rattle.rules.specs.Promise.{left, handedOut, leaves, Told, ToldOf, s
 use Rattle.rules.proofs.Rows.{over-laid}
 use Rattle.rules.proofs.Replies.{reply-count, reply-fits}
 
-nothing : (e : Event) (o : Outcome) → o .reply ≡ [] → o .operations ≡ [] → handedOut e o ≡ []
+nothing : (e : Event) (o : Outcome World) → o .reply ≡ [] → o .operations ≡ [] → handedOut e o ≡ []
 nothing BusReset o r p = r
 nothing (Control setup host room) o r p = r
 nothing (Packet bytes room) o r p = p

@@ -27,7 +27,7 @@ left answer count change bytes memory room =
     record { answer = answer; count = count; change = change; bytes = bytes; memory = memory; room = room }
 
 -- what goes into the lent room: the operations of a packet, the reply to anything else
-abbrev pub handedOut : Event → Outcome → List ℕ
+abbrev pub handedOut : Event → Outcome World → List ℕ
 handedOut BusReset o = o .reply
 handedOut (Control setup host room) o = o .reply
 handedOut (Packet p room) o = o .operations
@@ -38,7 +38,7 @@ handedOut (StatusRequest room) o = o .reply
 abbrev pub leaves : World → (ℕ → Event) → List ℕ → Left
 leaves w event room =
     let e : Event = event (length room) in
-    let o : Outcome = step w e in
+    let o : Outcome World = step w e in
     left (o .answer) (length (handedOut e o)) (change w e) (o .next .bytes) (o .next .memory) (laid (handedOut e o) room)
 
 -- a call that is lent neither bytes nor memory promises the same with all of them, and leaves them as they are

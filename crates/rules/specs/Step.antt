@@ -1,4 +1,4 @@
--- The five kinds of event, what each answers, hands out, changes and leaves, and runs of events.
+-- The five kinds of event, what each answers, hands out, changes and leaves; machines, and runs of events.
 use Prim.Native.Nat.{ℕ}
 use mathlib.Core.List.{List, [], _∷_}
 use mathlib.Core.Bool.{Bool, false, cond, _||_}
@@ -8,7 +8,7 @@ use Rattle.rules.specs.declared.Change.{Change}
 use Rattle.rules.specs.declared.Change.the-variants.{Nothing, Sets, Awaits, Stops}
 use Rattle.rules.specs.declared.Phase.{Phase}
 use Rattle.rules.specs.declared.Phase.the-variants.{Awaiting, Busy, StatusWaiting, Stopped}
-use Rattle.rules.specs.Held.{World, world, sizeOf}
+use Rattle.rules.specs.Held.{World, world, powered, sizeOf}
 use Rattle.rules.specs.Changes.{made}
 use Rattle.rules.specs.Requests.{setupOf, requestOf, replyTo, changeBy, bytesAfter, memoryAfter}
 use Rattle.rules.specs.Packets.{commandOf, blockOf, directionOf, signatureOf, recognises, commandTaken, statusPacket}
@@ -24,11 +24,12 @@ pub data Event : Type 0 where
   Report : (direction failed amount : ℕ) → Event
   StatusRequest : (room : ℕ) → Event
 
-pub record Outcome : Type 0 where
+-- what an event answers and hands out, and the state that it leaves
+pub record Outcome (State : Type 0) : Type 0 where
   pub answer : ℕ
   pub reply : List ℕ
   pub operations : List ℕ
-  pub next : World
+  pub next : State
 
 -- "An unrecognised block makes no operations."
 abbrev pub operationsFor : ℕ → List ℕ → List ℕ
@@ -103,7 +104,7 @@ changing n c = cond (done n) c (cond (damaged n) Stops Nothing)
 unfoldable pub change : World → Event → Change
 change w e = changing (answer w e) (changeDone w e)
 
-unfoldable pub step : World → Event → Outcome
+unfoldable pub step : World → Event → Outcome World
 step w e =
     record {
       answer = answer w e;
@@ -115,11 +116,22 @@ step w e =
           (cond (done (answer w e)) (memoryDone (w .memory) e) (w .memory));
     }
 
--- ---- runs. A machine is anything that answers events as a bridge does; `step` is the rules'.
+-- ---- A machine is anything that answers events as a bridge does. It has a state of its own, and what a bridge holds is what shows of it.
 
-abbrev pub Machine : Type 0
-Machine = World → Event → Outcome
+pub record Machine : Type 1 where
+  pub State : Type 0
+  pub on : List ℕ → State
+  pub shows : State → World
+  pub takes : State → Event → Outcome State
 
-abbrev pub after : Machine → World → List Event → World
-after s w [] = w
-after s w (e ∷ es) = after s (s w e .next) es
+-- the rules, as a machine
+abbrev pub rules : Machine
+rules = record { State = World; on = powered; shows = λ w. w; takes = step }
+
+abbrev pub after : (m : Machine) → m .State → List Event → m .State
+after m s [] = s
+after m s (e ∷ es) = after m (m .takes s e .next) es
+
+-- after a history from power-on, with this memory fitted
+abbrev pub reached : (m : Machine) → List ℕ → List Event → m .State
+reached m memory history = after m (m .on memory) history

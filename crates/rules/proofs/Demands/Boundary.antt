@@ -18,7 +18,7 @@ use Rattle.rules.specs.Changes.{made}
 use Rattle.rules.specs.Stopping.{clearsPipe}
 use Rattle.rules.specs.Requests.{setupOf, requestOf, isA, changeBy, bytesAfter, memoryAfter}
 use Rattle.rules.specs.Answers.{requestAnswer, packetAnswer, reportAnswer, statusAnswer}
-use Rattle.rules.specs.Step.{Event, BusReset, Control, Packet, Report, StatusRequest, change, step, after, done, damaged}
+use Rattle.rules.specs.Step.{Event, BusReset, Control, Packet, Report, StatusRequest, change, step, rules, after, done, damaged}
 use Rattle.rules.specs.Demands.Boundary.{Ready, isBusReset, accepts, someHalt, clearsSecond, boundary, unbroken, keptWrites, statusIn, Silent, Stop, Silence, Resumption, resetAmong, NoEndWithoutReset, recovery, Recovery}
 use Rattle.rules.proofs.Checks.{request-undamaged}
 
@@ -97,8 +97,8 @@ module _ (r : Bool) (b : Bridge) (bytes memory : List ℕ) (h : (b .halts .outwa
 
 -- the course of every event at a stop
 course : {r : Bool} {w : World} → Stands r w → (e : Event)
-    → Course r w (step w e .next) (step (calmed w) e .next) (clearsSecond step w e) (boundary step w e)
-    (accepts step SetConfiguration w e || isBusReset e) (accepts step MassStorageReset w e) (accepts step LoadConfigData w e)
+    → Course r w (step w e .next) (step (calmed w) e .next) (clearsSecond rules w e) (boundary rules w e)
+    (accepts rules SetConfiguration w e || isBusReset e) (accepts rules MassStorageReset w e) (accepts rules LoadConfigData w e)
 unfolding step change packetAnswer reportAnswer statusAnswer
 course (stands b bytes memory h) BusReset = ended refl refl (λ x. absurd (false≢true x))
 course {r} (stands b bytes memory h) (Control setup host room) =
@@ -139,29 +139,29 @@ quiet (stands b bytes memory h) (StatusRequest room) = (refl, refl)
 
 -- a run that starts with an event that is kept or not, and a run in two parts
 after-kept : (t : Bool) (w : World) (e : Event) (es : List Event)
-    → after step w (cond t (e ∷ es) es) ≡ after step (cond t (step w e .next) w) es
+    → after rules w (cond t (e ∷ es) es) ≡ after rules (cond t (step w e .next) w) es
 after-kept true w e es = refl
 after-kept false w e es = refl
 
-after-append : (w : World) (es fs : List Event) → after step w (es ++ fs) ≡ after step (after step w es) fs
+after-append : (w : World) (es fs : List Event) → after rules w (es ++ fs) ≡ after rules (after rules w es) fs
 after-append w [] fs = refl
 after-append w (e ∷ es) fs = after-append (step w e .next) es fs
 
 -- what holds of events that are not the boundary
 record Until (r : Bool) (w : World) (es : List Event) : Type 0 where
-  silent : Silent step w es
-  lasts : Stands (resetAmong step w es || r) (after step w es)
-  calm : calmed (after step w es) ≡ after step (calmed w) (keptWrites step w es)
+  silent : Silent rules w es
+  lasts : Stands (resetAmong rules w es || r) (after rules w es)
+  calm : calmed (after rules w es) ≡ after rules (calmed w) (keptWrites rules w es)
 
-until : {r : Bool} {w : World} → Stands r w → (es : List Event) → unbroken step w es ≡ true → Until r w es
+until : {r : Bool} {w : World} → Stands r w → (es : List Event) → unbroken rules w es ≡ true → Until r w es
 until h [] u = record { silent = tt; lasts = h; calm = refl }
 until {r} {w} h (e ∷ es) u =
-    let n = and-eq-true-iff (not (boundary step w e)) (unbroken step (step w e .next) es) .0 u in
+    let n = and-eq-true-iff (not (boundary rules w e)) (unbroken rules (step w e .next) es) .0 u in
     let k = lasting (course h e) (not-true _ (n .0)) in
     let rest = until (k .0) es (n .1) in
     record {
       silent = (quiet h e .0, quiet h e .1, rest .silent);
-      lasts = rw (or-comm (accepts step MassStorageReset w e) (resetAmong step (step w e .next) es), or-assoc) (rest .lasts);
+      lasts = rw (or-comm (accepts rules MassStorageReset w e) (resetAmong rules (step w e .next) es), or-assoc) (rest .lasts);
       calm = rw (after-kept, ← (k .1)) (rest .calm);
     }
 
@@ -198,9 +198,9 @@ ready-calm w g =
 
 -- ---- demand 3: the stop that a damaged packet makes of the bridge before it, how it lasts, and how the bridge is when it ends
 
-module _ {memory : List ℕ} {history : List Event} {d : Event} {since : List Event} (s : Stop step memory history d since) where
+module _ {memory : List ℕ} {history : List Event} {d : Event} {since : List Event} (s : Stop rules memory history d since) where
   abbrev before : World
-  before = after step (powered memory) history
+  before = after rules (powered memory) history
 
   stopped : step before d .next ≡ world (configuring true (made Stops (before .bridge))) (before .bytes) (before .memory)
   stopped = damage-stops before d (s .ready) (s .damages)
@@ -208,37 +208,37 @@ module _ {memory : List ℕ} {history : List Event} {d : Event} {since : List Ev
   lasted : Until false (step before d .next) since
   lasted = until (rw stopped (stands (made Stops (before .bridge)) (before .bytes) (before .memory) refl)) since (s .lasts)
 
-  resumed : calmed (after step (step before d .next) since) ≡ after step before (keptWrites step (step before d .next) since)
+  resumed : calmed (after rules (step before d .next) since) ≡ after rules before (keptWrites rules (step before d .next) since)
   resumed =
       lasted .calm
-      ∙ ap (λ w. after step w (keptWrites step (step before d .next) since)) (ap calmed stopped ∙ ready-calm before (s .ready))
+      ∙ ap (λ w. after rules w (keptWrites rules (step before d .next) since)) (ap calmed stopped ∙ ready-calm before (s .ready))
 
-pub silence : Silence step
+pub silence : Silence rules
 silence memory history d since s =
     let q = damage-silent (before s) d (s .damages) in (q .0, q .1, lasted s .silent)
 
-pub resumption : Resumption step
+pub resumption : Resumption rules
 resumption memory history d since b s f =
     rw (after-append, after-append, ← (resumed s), after-kept) (ending (course (lasted s .lasts) b) f .0)
 
-pub no-end-without-reset : NoEndWithoutReset step
+pub no-end-without-reset : NoEndWithoutReset rules
 no-end-without-reset memory history d since b s f = rw or-false at (ending (course (lasted s .lasts) b) (rw f) .1 f)
 
 -- reset recovery calms every stop
 recovered : {r : Bool} {w : World} → Stands r w
-    → (after step w (recovery bulkOut bulkIn) ≡ calmed w) × (after step w (recovery bulkIn bulkOut) ≡ calmed w)
+    → (after rules w (recovery bulkOut bulkIn) ≡ calmed w) × (after rules w (recovery bulkIn bulkOut) ≡ calmed w)
 unfolding step change requestOf requestAnswer
 recovered {r = r} (stands b bytes memory h) = go (b .halts .outward) (b .halts .inward) h
   where
     go : (o i : Bool) → (o || i) ≡ true
         → (let v = halting b bytes memory r o i in
-        (after step v (recovery bulkOut bulkIn) ≡ calmed v) × (after step v (recovery bulkIn bulkOut) ≡ calmed v))
+        (after rules v (recovery bulkOut bulkIn) ≡ calmed v) × (after rules v (recovery bulkIn bulkOut) ≡ calmed v))
     go true true h = (refl, refl)
     go true false h = (refl, refl)
     go false true h = (refl, refl)
     go false false h = absurd (false≢true h)
 
-pub recovers : Recovery step
+pub recovers : Recovery rules
 recovers memory history d since s =
     let q = recovered (lasted s .lasts) in
     (rw after-append (q .0 ∙ resumed s), rw after-append (q .1 ∙ resumed s))

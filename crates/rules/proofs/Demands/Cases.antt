@@ -16,7 +16,7 @@ use Rattle.rules.specs.Held.{World}
 use Rattle.rules.specs.Changes.{made}
 use Rattle.rules.specs.Reports.{malformed, mismatch, finished}
 use Rattle.rules.specs.Answers.{reportAnswer}
-use Rattle.rules.specs.Step.{Report, change, step}
+use Rattle.rules.specs.Step.{Report, change, step, rules}
 use Rattle.rules.specs.Demands.Cases.{Inwards, Outwards, Case, cases, moved, fits, fitting, leaves, Each, ThirteenCases}
 
 -- ---- where one case fits, what holds of the first that fits holds of each that does
@@ -138,7 +138,7 @@ report-taken : (w : World) (host : Direction) (tag l : ℕ) (direction failed am
 unfolding step change reportAnswer
 report-taken w host tag l direction failed amount c p m = (rw (c, p, m), rw (c, p, m))
 
-pub thirteen-cases : ThirteenCases step
+pub thirteen-cases : ThirteenCases rules
 thirteen-cases w host tag l direction failed amount c p d f a =
     let b : Bridge = w .bridge in
     let next : Bridge = step w (Report direction failed amount) .next .bridge in

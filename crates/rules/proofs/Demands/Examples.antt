@@ -5,13 +5,13 @@ use Rattle.rules.specs.Packets.{valid, meaningful, recognised}
 use Rattle.rules.specs.Operations.{operationsOf}
 use Rattle.rules.specs.Reports.{malformed, mismatch}
 use Rattle.rules.specs.Answers.{requestAnswer, packetAnswer, reportAnswer, statusAnswer}
-use Rattle.rules.specs.Step.{change, step}
+use Rattle.rules.specs.Step.{change, step, rules}
 use Rattle.rules.specs.Demands.Examples.{Examples, Story}
 
-pub examples : Examples step
+pub examples : Examples rules
 unfolding step change requestOf address onePage requestAnswer packetAnswer reportAnswer statusAnswer valid meaningful recognised operationsOf malformed mismatch
 examples = refl
 
-pub a-stop : Story step
+pub a-stop : Story rules
 unfolding step change requestOf address onePage requestAnswer packetAnswer reportAnswer statusAnswer valid meaningful recognised operationsOf malformed mismatch
 a-stop = refl

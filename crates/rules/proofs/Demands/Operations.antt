@@ -12,11 +12,11 @@ use Rattle.rules.specs.declared.Direction.the-variants.{In, Out}
 use Rattle.rules.specs.Words.{byte, bit, bitOf, one}
 use Rattle.rules.specs.Operations.{Operation, Poll, Select, Write, Read, Transfer}
 use Rattle.rules.specs.Operations.{action, selected, content, only, withBit4, selectByte, transferByte, operationsOf}
-use Rattle.rules.specs.Step.{change, step}
+use Rattle.rules.specs.Step.{change, step, rules}
 use Rattle.rules.specs.Demands.Operations.{ExactOperations, Differ, Sets, PollBit, SelectLast, SelectBit, Weighs}
 use Rattle.rules.specs.Demands.Operations.{TransferBits, TransferWay, TransferNeedsLength, tally, Counted, Listed}
 
-pub exact-operations : ExactOperations step
+pub exact-operations : ExactOperations rules
 unfolding step change
 exact-operations w p room h = rw h
 

@@ -6,15 +6,15 @@ use Rattle.rules.specs.Held.{sizeOf}
 use Rattle.rules.specs.Requests.{setupOf, requestOf}
 use Rattle.rules.specs.Answers.{requestChecks, requestAnswer, packetChecks, packetAnswer, reportChecks, reportAnswer, statusChecks, statusAnswer}
 use Rattle.rules.specs.Packets.{signatureOf}
-use Rattle.rules.specs.Step.{BusReset, Control, Packet, Report, StatusRequest, operationsFor, answer, change, step}
+use Rattle.rules.specs.Step.{BusReset, Control, Packet, Report, StatusRequest, operationsFor, answer, change, step, rules}
 use Rattle.rules.specs.Demands.Refusals.{Refusals, numbers, among, Numbered}
 use Rattle.rules.proofs.Checks.{answer-has}
 
-pub refusals : Refusals step
+pub refusals : Refusals rules
 unfolding step change
 refusals w e h = (rw (ne-eqb (answer w e) 0 h), rw (ne-eqb (answer w e) 0 h), rw (ne-eqb (answer w e) 0 h))
 
-pub numbered : Numbered step
+pub numbered : Numbered rules
 unfolding step change requestAnswer packetAnswer reportAnswer statusAnswer
 numbered w BusReset = refl
 numbered w (Control setup host room) =

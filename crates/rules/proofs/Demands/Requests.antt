@@ -15,7 +15,7 @@ use Rattle.rules.specs.Words.{byte, word, over}
 use Rattle.rules.specs.Held.{World, sizeOf}
 use Rattle.rules.specs.Requests.{setupOf, requestOf, needsConfiguration, inBytes, inMemory, address, isA, storeOf}
 use Rattle.rules.specs.Answers.{requestAnswer, packetAnswer, reportAnswer, statusAnswer}
-use Rattle.rules.specs.Step.{Event, BusReset, Control, Packet, Report, StatusRequest, answer, bytesDone, memoryDone, done, change, step}
+use Rattle.rules.specs.Step.{Event, BusReset, Control, Packet, Report, StatusRequest, answer, bytesDone, memoryDone, done, change, step, rules}
 use Rattle.rules.specs.Demands.Requests.{WholeFields, Unconfigured, Holds, ExactWrites, NoOtherWrites, ExactReads}
 use Rattle.rules.proofs.Checks.{request-has, accepted-write}
 use Rattle.rules.proofs.Rows.{over-pastes}
@@ -32,7 +32,7 @@ needs kind (inl h) = rw h
 needs kind (inr (inl h)) = rw h
 needs kind (inr (inr h)) = rw h (simp or-true)
 
-pub unconfigured : Unconfigured step
+pub unconfigured : Unconfigured rules
 unfolding step change requestAnswer packetAnswer reportAnswer statusAnswer
 unconfigured w BusReset c g = absurd g
 unconfigured w (Control setup host room) c g = rw (c, eq-eqb _ _ (g .0), needs (byte 0 setup) (g .1))
@@ -109,7 +109,7 @@ module _ (m : ℕ) (place start n : ℕ) (bytes memory host : List ℕ) (sixteen
           (written bytes host start n (omega arith) long, (refl, λ k. refl))
       go false ex false ey p a = absurd (false≢true p)
 
-pub exact-writes : ExactWrites step
+pub exact-writes : ExactWrites rules
 unfolding step change
 exact-writes w setup host room sixteen i a =
     let pair = and-eq-true-iff (eqb (byte 0 setup) 0x40) (eqb (byte 1 setup) 0x01) .0 i in
@@ -135,7 +135,7 @@ untouched w e b m = (kept (done (answer w e)) b, kept (done (answer w e)) m)
     kept true h = h
     kept false h = refl
 
-pub no-other-writes : NoOtherWrites step
+pub no-other-writes : NoOtherWrites rules
 no-other-writes w BusReset h = untouched w BusReset refl refl
 no-other-writes w (Control setup host room) h =
     let r : isA LoadConfigData (requestOf (setupOf setup)) ≡ false = not-load (setupOf setup) h in
@@ -151,7 +151,7 @@ is-read : (s : Setup) → s .kind ≡ 0xC0 → s .code ≡ 0x02 → requestOf s 
 unfolding requestOf
 is-read s k c = rw (k, c)
 
-pub exact-reads : ExactReads step
+pub exact-reads : ExactReads rules
 unfolding step change
 exact-reads w setup host room sixteen kind code a =
     let read : requestOf (setupOf setup) ≡ ReadConfigData = is-read (setupOf setup) kind code in

@@ -6,19 +6,29 @@ use Prim.Native.Nat.{ℕ}
 use native.Mathlib.Omega.{arith}
 use lib.Dec.{eqb}
 use lib.ListN.{length}
-use Rattle.rules.specs.Held.{World, powered, isAwaiting}
+use Rattle.rules.specs.Held.{World, isAwaiting}
 use Rattle.rules.specs.Requests.{requestOf, address, onePage}
 use Rattle.rules.specs.Packets.{valid, meaningful, recognised}
 use Rattle.rules.specs.Operations.{operationsOf}
 use Rattle.rules.specs.Reports.{malformed, mismatch}
 use Rattle.rules.specs.Answers.{requestAnswer, packetAnswer, reportAnswer, statusAnswer}
-use Rattle.rules.specs.Step.{Packet, change, step, after}
+use Rattle.rules.specs.Step.{BusReset, Packet, Report, StatusRequest, change, step, rules, reached}
 use Rattle.rules.specs.Demands.Requests.{wire}
-use Rattle.rules.specs.Demands.Examples.{configure, identifying}
-use Rattle.rules.specs.Demands.ShutOut.{ShutOut}
+use Rattle.rules.specs.Demands.Boundary.{Ready}
+use Rattle.rules.specs.Demands.Examples.{configure, identify, identifying}
+use Rattle.rules.specs.Demands.ShutOut.{performsFirst, ShutOut}
 
 abbrev configured : World
-configured = after step (powered []) (configure ∷ [])
+configured = reached rules [] (configure ∷ [])
+
+-- a bridge that has performed its first command
+abbrev performed : World × Bool
+performed = reached performsFirst [] (configure ∷ identify 0x80 ∷ Report 1 0 512 ∷ StatusRequest 13 ∷ [])
+
+-- a bridge that a damaged packet finds ready
+calm : Ready configured
+unfolding step change requestOf requestAnswer
+calm = record { configured = refl; awaits = refl; outRuns = refl; inRuns = refl }
 
 abbrev waits : World → Bool
 waits w = isAwaiting (w .bridge .phase)
@@ -32,8 +42,8 @@ shut-out = (
   λ h. false≢true h,
   λ h. differ (eqb 0) (h configured (wire 0xC0 0x02 0 4 1) [] 1 refl refl refl refl .1 0 (omega arith)) refl refl,
   λ h. differ (eqb 0x24) (h configured (wire 0x40 0x01 0 4 1) (0x25 ∷ []) 0 refl refl refl .0 .1 4) refl refl,
-  λ h. differ (λ (l : List ℕ). eqb (length l) 0) (h configured (identifying 0x80) 11 refl) refl refl,
-  λ h. differ waits (h configured (Packet [] 0) (λ e. differ (eqb 13) e refl refl) .2) refl refl,
-  λ h. differ waits (sym (h [] (configure ∷ []) (Packet [] 0) [] (record { ready = record { configured = refl; awaits = refl; outRuns = refl; inRuns = refl }; damages = refl; lasts = refl }) .0)) refl refl,
+  λ h. differ (λ (l : List ℕ). eqb (length l) 0) (h performed (identifying 0x80) 11 refl) refl refl,
+  λ h. differ (λ (l : List ℕ). eqb (length l) 5) (h [] (configure ∷ []) (Packet [] 0) (identify 0x80 ∷ []) (record { ready = calm; damages = refl; lasts = refl }) .2 .0) refl refl,
+  λ h. differ waits (sym (h [] (configure ∷ []) (Packet [] 0) [] BusReset (record { ready = calm; damages = refl; lasts = refl }) refl)) refl refl,
   λ h. differ (λ (l : List ℕ). eqb (length l) 6) (h configured (identifying 0x80) 11 refl) refl refl,
 )

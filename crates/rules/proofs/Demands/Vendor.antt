@@ -16,7 +16,7 @@ use Rattle.rules.specs.Held.{world, sizeOf, inPhase, halted}
 use Rattle.rules.specs.Changes.{made}
 use Rattle.rules.specs.Requests.{setupOf, requestOf, isA, hasPlace, replyTo, changeBy}
 use Rattle.rules.specs.Answers.{requestAnswer}
-use Rattle.rules.specs.Step.{change, step, done}
+use Rattle.rules.specs.Step.{change, step, rules, done}
 use Rattle.rules.specs.Demands.Boundary.{VendorInStop}
 use Rattle.rules.proofs.Checks.{request-undamaged, request-has}
 
@@ -45,10 +45,11 @@ module _ (b : Bridge) (bytes memory : List ℕ) (reset out back : Bool) (s : Set
   alike BogusRead true v = (refl, refl)
   alike Unknown true v = (refl, refl)
 
-pub vendor-in-stop : VendorInStop step
+pub vendor-in-stop : VendorInStop rules
 unfolding step change
-vendor-in-stop b bytes memory reset out back setup host room k =
+vendor-in-stop w t reset out back setup host room e k =
     let s = setupOf setup in
     let v = request-has (λ kind code. eqb (kind / 32 % 4) 2) vendor s (eq-eqb _ 2 k) refl in
-    let a = alike b bytes memory reset out back s (requestOf s) (done (requestAnswer (b .configured) (sizeOf memory) setup (length host) room)) v in
-    rw request-undamaged (refl, a .0, rw (a .1))
+    let accepted = done (requestAnswer (w .bridge .configured) (sizeOf (w .memory)) setup (length host) room) in
+    let a = alike (w .bridge) (w .bytes) (w .memory) reset out back s (requestOf s) accepted v in
+    rw (e, request-undamaged) (refl, a .0, rw (a .1))

@@ -26,7 +26,7 @@ use Rattle.rules.specs.Reports.{malformed, mismatch, statusOf, residueOf
 use Rattle.rules.specs.Stopping.{clearsPipe, massStorageReset, softReset}
 use Rattle.rules.specs.Requests.{setupOf, requestOf, inMemory, changeBy, bytesAfter, memoryAfter}
 use Rattle.rules.specs.Answers.{reportChecks, reportAnswer}
-use Rattle.rules.specs.Step.{Event, BusReset, Control, Packet, Report, StatusRequest, change, step, after, answer, done, damaged, changeDone, bytesDone, memoryDone}
+use Rattle.rules.specs.Step.{Event, BusReset, Control, Packet, Report, StatusRequest, change, step, rules, after, answer, done, damaged, changeDone, bytesDone, memoryDone}
 use Rattle.rules.specs.Demands.WellFormed.{Bytes, Proper, ProperAll, sound, WellFormed, StaysWellFormed}
 use Rattle.rules.proofs.Checks.{passed}
 use Rattle.rules.proofs.Rows.{over-length}
@@ -207,10 +207,10 @@ module _ (w : World) (g : WellFormed w) where
 
 -- ---- any history
 
-run : (w : World) (history : List Event) → WellFormed w → ProperAll history → WellFormed (after step w history)
+run : (w : World) (history : List Event) → WellFormed w → ProperAll history → WellFormed (after rules w history)
 run w [] g h = g
 run w (e ∷ es) g h = run (step w e .next) es (stepped w g e (h .0)) (h .1)
 
-pub stays-well-formed : StaysWellFormed step
+pub stays-well-formed : StaysWellFormed rules
 stays-well-formed memory history m h =
     run (powered memory) history (record { sixteen = refl; bytes = bytes-tested powerOnBytes refl; memory = m; phase = refl }) h

@@ -9,7 +9,7 @@ use Rattle.rules.specs.declared.Direction.{Direction}
 use Rattle.rules.specs.declared.Direction.the-variants.{Out, In}
 use Rattle.rules.specs.declared.Phase.the-variants.{Busy, StatusWaiting}
 use Rattle.rules.specs.Words.{one}
-use Rattle.rules.specs.Held.{World, inPhase, halting}
+use Rattle.rules.specs.Held.{inPhase, halting}
 use Rattle.rules.specs.Step.{Report, Machine}
 
 -- data goes no way, in, or out
@@ -111,12 +111,13 @@ Each P (c ∷ cs) = P c × Each P cs
 -- "These are BOT's thirteen cases": of a configured busy bridge, a report that is not malformed falls under one case, and is answered 0 and leaves
 -- what that case says.
 abbrev pub ThirteenCases : Machine → Type 0
-ThirteenCases s =
-    (w : World) (host : Direction) (tag l : ℕ) (direction failed amount : ℕ) → w .bridge .configured ≡ true → w .bridge .phase ≡ Busy host tag l
+ThirteenCases m =
+    (s : m .State) (host : Direction) (tag l : ℕ) (direction failed amount : ℕ)
+    → m .shows s .bridge .configured ≡ true → m .shows s .bridge .phase ≡ Busy host tag l
     → direction ≤ 2 → failed ≤ 1 → (direction ≡ 0 → amount ≡ 0)
     → (fitting l host direction amount cases ≡ 1)
-    × (s w (Report direction failed amount) .answer ≡ 0)
+    × (m .takes s (Report direction failed amount) .answer ≡ 0)
     × Each
     (λ c. fits l host direction amount c ≡ true
-    → s w (Report direction failed amount) .next .bridge ≡ leaves c host tag l failed amount (w .bridge))
+    → m .shows (m .takes s (Report direction failed amount) .next) .bridge ≡ leaves c host tag l failed amount (m .shows s .bridge))
     cases

@@ -7,8 +7,8 @@ use lib.ListN.{length, replicate}
 use lib.Dec.{eqb}
 use Rattle.rules.specs.declared.Phase.{Phase}
 use Rattle.rules.specs.declared.Phase.the-variants.{Awaiting, Busy, StatusWaiting, Stopped}
-use Rattle.rules.specs.Held.{World, powered, bulkOut, bulkIn}
-use Rattle.rules.specs.Step.{Event, Control, Packet, Report, StatusRequest, Outcome, Machine, after}
+use Rattle.rules.specs.Held.{World, bulkOut, bulkIn}
+use Rattle.rules.specs.Step.{Event, Control, Packet, Report, StatusRequest, Outcome, Machine, after, reached}
 use Rattle.rules.specs.Demands.Requests.{wire}
 use Rattle.rules.specs.Demands.Boundary.{unbroken, boundary, keptWrites}
 
@@ -31,10 +31,13 @@ abbrev pub identify : ℕ → Event
 identify action = Packet (identifying action) 11
 
 -- "Configured, M = 2,048 unless told."
-abbrev pub ready : Machine → World
-ready s = after s (powered (replicate 2048 0xFF)) (configure ∷ [])
+abbrev pub ready : (m : Machine) → m .State
+ready m = reached m (replicate 2048 0xFF) (configure ∷ [])
 
--- ---- what is right of an outcome
+-- ---- what is right of an outcome, with what shows of the state that it leaves
+
+abbrev pub shown : (m : Machine) → Outcome (m .State) → Outcome World
+shown m o = record { answer = o .answer; reply = o .reply; operations = o .operations; next = m .shows (o .next) }
 
 abbrev pub same : List ℕ → List ℕ → Bool
 same [] [] = true
@@ -42,10 +45,10 @@ same [] (y ∷ ys) = false
 same (x ∷ xs) [] = false
 same (x ∷ xs) (y ∷ ys) = eqb x y && same xs ys
 
-abbrev pub answers : ℕ → Outcome → Bool
+abbrev pub answers : ℕ → Outcome World → Bool
 answers n o = eqb (o .answer) n
 
-abbrev pub makes : List ℕ → Outcome → Bool
+abbrev pub makes : List ℕ → Outcome World → Bool
 makes ops o = answers 0 o && same (o .operations) ops
 
 abbrev pub waitsWith : ℕ → ℕ → Phase → Bool
@@ -54,7 +57,7 @@ waitsWith residue status (Busy direction tag l) = false
 waitsWith residue status (StatusWaiting tag r s) = eqb r residue && eqb s status
 waitsWith residue status (Stopped reset) = false
 
-abbrev pub reports : ℕ → ℕ → Outcome → Bool
+abbrev pub reports : ℕ → ℕ → Outcome World → Bool
 reports residue status o =
     answers 0 o && waitsWith residue status (o .next .bridge .phase) && o .next .bridge .halts .inward && not (o .next .bridge .halts .outward)
 
@@ -63,9 +66,9 @@ reports residue status o =
 pub record Example : Type 0 where
   pub before : List Event
   pub event : Event
-  pub wants : Outcome → Bool
+  pub wants : Outcome World → Bool
 
-abbrev pub example : List Event → Event → (Outcome → Bool) → Example
+abbrev pub example : List Event → Event → (Outcome World → Bool) → Example
 example es e f = record { before = es; event = e; wants = f }
 
 abbrev pub table : List Example
@@ -85,11 +88,11 @@ table =
     []
 
 abbrev pub right : Machine → List Example → Bool
-right s [] = true
-right s (x ∷ xs) = (x .wants) (s (after s (ready s) (x .before)) (x .event)) && right s xs
+right m [] = true
+right m (x ∷ xs) = (x .wants) (shown m (m .takes (after m (ready m) (x .before)) (x .event))) && right m xs
 
 abbrev pub Examples : Machine → Type 0
-Examples s = right s table ≡ true
+Examples m = right m table ≡ true
 
 -- ---- Demand 3 is not empty: a damaged packet, then a status request, a vendor write, Clear Feature too early, a packet, a Mass Storage Reset,
 -- one pipe, a second reset, the same pipe again, none of them the boundary; then the other pipe, which is; and the next command is done.
@@ -105,14 +108,14 @@ since =
     StatusRequest 13 ∷ write 2 248 8 ∷ clear bulkOut ∷ clear bulkIn ∷ identify 0x80 ∷ reset ∷ clear bulkIn ∷ reset ∷ clear bulkIn ∷ []
 
 abbrev pub story : Machine → Bool
-story s =
-    let d : Outcome = s (ready s) (Packet [] 11) in
-    let w : World = after s (d .next) since in
-    answers 13 d
-    && unbroken s (d .next) since
-    && eqb (length (keptWrites s (d .next) since)) 1
-    && boundary s w (clear bulkOut)
-    && makes (0x0100 ∷ 0x02E0 ∷ 0x17EC ∷ 0x0311 ∷ 0x2700 ∷ []) (s (s w (clear bulkOut) .next) (identify 0x80))
+story m =
+    let d : Outcome (m .State) = m .takes (ready m) (Packet [] 11) in
+    let s : m .State = after m (d .next) since in
+    answers 13 (shown m d)
+    && unbroken m (d .next) since
+    && eqb (length (keptWrites m (d .next) since)) 1
+    && boundary m s (clear bulkOut)
+    && makes (0x0100 ∷ 0x02E0 ∷ 0x17EC ∷ 0x0311 ∷ 0x2700 ∷ []) (shown m (m .takes (m .takes s (clear bulkOut) .next) (identify 0x80)))
 
 abbrev pub Story : Machine → Type 0
-Story s = story s ≡ true
+Story m = story m ≡ true

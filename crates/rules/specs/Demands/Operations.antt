@@ -8,17 +8,16 @@ use lib.Dec.{ltb}
 use Rattle.rules.specs.declared.Direction.{Direction}
 use Rattle.rules.specs.declared.Direction.the-variants.{In, Out}
 use Rattle.rules.specs.Words.{byte, bit, bitOf, one}
-use Rattle.rules.specs.Held.{World}
 use Rattle.rules.specs.Packets.{commandOf, blockOf, directionOf, signatureOf, recognises}
 use Rattle.rules.specs.Operations.{Operation, Poll, Select, Write, Read, Transfer, codes, action, selected, content, only, operationsOf}
 use Rattle.rules.specs.Step.{Packet, Machine}
 
 -- "A command block yields exactly its listed register operations."
 abbrev pub ExactOperations : Machine → Type 0
-ExactOperations s =
-    (w : World) (p : List ℕ) (room : ℕ) → s w (Packet p room) .answer ≡ 0
-    → s w (Packet p room) .operations
-    ≡ cond (recognises (signatureOf (w .bytes)) p) (codes (operationsOf (blockOf p) (commandOf p .length) (directionOf (commandOf p)))) []
+ExactOperations m =
+    (s : m .State) (p : List ℕ) (room : ℕ) → m .takes s (Packet p room) .answer ≡ 0
+    → m .takes s (Packet p room) .operations
+    ≡ cond (recognises (signatureOf (m .shows s .bytes)) p) (codes (operationsOf (blockOf p) (commandOf p .length) (directionOf (commandOf p)))) []
 
 -- two lists that are the same but for one place, where the first has x and the second y
 pub record Differ (before after x y : List Operation) : Type 0 where

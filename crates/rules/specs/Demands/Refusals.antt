@@ -16,11 +16,13 @@ damages n = eqb n 13 || eqb n 14
 -- "A refused call changes no memory byte, configuration byte or lent buffer; only a damaged command packet changes the bridge's state, by
 -- stopping it."
 abbrev pub Refusals : Machine → Type 0
-Refusals s =
-    (w : World) (e : Event) → (s w e .answer ≡ 0 → ⊥)
-    → (s w e .reply ≡ [])
-    × (s w e .operations ≡ [])
-    × (s w e .next ≡ world (made (cond (damages (s w e .answer)) Stops Nothing) (w .bridge)) (w .bytes) (w .memory))
+Refusals m =
+    (s : m .State) (e : Event) → (m .takes s e .answer ≡ 0 → ⊥)
+    → (let w : World = m .shows s in
+    (m .takes s e .reply ≡ [])
+    × (m .takes s e .operations ≡ [])
+    × (m .shows (m .takes s e .next)
+    ≡ world (made (cond (damages (m .takes s e .answer)) Stops Nothing) (w .bridge)) (w .bytes) (w .memory)))
 
 -- "Each refusal has its number in document 01."
 abbrev pub numbers : Event → List ℕ
@@ -35,4 +37,4 @@ among n [] = false
 among n (k ∷ ks) = eqb n k || among n ks
 
 abbrev pub Numbered : Machine → Type 0
-Numbered s = (w : World) (e : Event) → among (s w e .answer) (numbers e) ≡ true
+Numbered m = (s : m .State) (e : Event) → among (m .takes s e .answer) (numbers e) ≡ true

@@ -8,7 +8,6 @@ use lib.ListN.{length}
 use lib.Dec.{eqb, leb, ltb}
 use Rattle.rules.specs.declared.Setup.{Setup}
 use Rattle.rules.specs.Words.{byte, word}
-use Rattle.rules.specs.Held.{World}
 use Rattle.rules.specs.Step.{Event, BusReset, Control, Packet, Report, StatusRequest, Machine}
 
 -- "Fields are the whole 16-bit numbers, low byte first": how a host puts them on the wire, and what must be read from it
@@ -31,7 +30,7 @@ Guarded (Report direction failed amount) = Unit {0}
 Guarded (StatusRequest room) = Unit {0}
 
 abbrev pub Unconfigured : Machine → Type 0
-Unconfigured s = (w : World) (e : Event) → w .bridge .configured ≡ false → Guarded e → s w e .answer ≡ 4
+Unconfigured m = (s : m .State) (e : Event) → m .shows s .bridge .configured ≡ false → Guarded e → m .takes s e .answer ≡ 4
 
 -- LOAD_CONFIG_DATA by its pair
 abbrev pub isWrite : Event → Bool
@@ -49,24 +48,26 @@ Holds hit start n host before now =
 
 -- "A legal vendor write changes exactly its addressed bytes."
 abbrev pub ExactWrites : Machine → Type 0
-ExactWrites s =
-    (w : World) (setup host : List ℕ) (room : ℕ) → length (w .bytes) ≡ 16
-    → isWrite (Control setup host room) ≡ true → s w (Control setup host room) .answer ≡ 0
-    → (let next = s w (Control setup host room) .next in
-    Holds (eqb (word 2 setup) 0x0000) (word 4 setup) (word 6 setup) host (w .bytes) (next .bytes)
-    × Holds (eqb (word 2 setup) 0x0002) (word 4 setup) (word 6 setup) host (w .memory) (next .memory))
+ExactWrites m =
+    (s : m .State) (setup host : List ℕ) (room : ℕ) → length (m .shows s .bytes) ≡ 16
+    → isWrite (Control setup host room) ≡ true → m .takes s (Control setup host room) .answer ≡ 0
+    → (let next = m .shows (m .takes s (Control setup host room) .next) in
+    Holds (eqb (word 2 setup) 0x0000) (word 4 setup) (word 6 setup) host (m .shows s .bytes) (next .bytes)
+    × Holds (eqb (word 2 setup) 0x0002) (word 4 setup) (word 6 setup) host (m .shows s .memory) (next .memory))
 
 -- .. and nothing else changes a byte of either place.
 abbrev pub NoOtherWrites : Machine → Type 0
-NoOtherWrites s =
-    (w : World) (e : Event) → isWrite e ≡ false
-    → (s w e .next .bytes ≡ w .bytes) × (s w e .next .memory ≡ w .memory)
+NoOtherWrites m =
+    (s : m .State) (e : Event) → isWrite e ≡ false
+    → (let next = m .shows (m .takes s e .next) in
+    (next .bytes ≡ m .shows s .bytes) × (next .memory ≡ m .shows s .memory))
 
 -- READ_CONFIG_DATA gives "n bytes": those that stand at the addresses from start on.
 abbrev pub ExactReads : Machine → Type 0
-ExactReads s =
-    (w : World) (setup host : List ℕ) (room : ℕ) → length (w .bytes) ≡ 16
-    → byte 0 setup ≡ 0xC0 → byte 1 setup ≡ 0x02 → s w (Control setup host room) .answer ≡ 0
-    → (let reply = s w (Control setup host room) .reply in
+ExactReads m =
+    (s : m .State) (setup host : List ℕ) (room : ℕ) → length (m .shows s .bytes) ≡ 16
+    → byte 0 setup ≡ 0xC0 → byte 1 setup ≡ 0x02 → m .takes s (Control setup host room) .answer ≡ 0
+    → (let reply = m .takes s (Control setup host room) .reply in
     (length reply ≡ word 6 setup)
-    × ((k : ℕ) → k < word 6 setup → byte k reply ≡ byte (word 4 setup + k) (cond (eqb (word 2 setup) 0x0002) (w .memory) (w .bytes))))
+    × ((k : ℕ) → k < word 6 setup
+    → byte k reply ≡ byte (word 4 setup + k) (cond (eqb (word 2 setup) 0x0002) (m .shows s .memory) (m .shows s .bytes))))

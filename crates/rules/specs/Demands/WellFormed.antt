@@ -10,8 +10,8 @@ use Rattle.rules.specs.declared.Halts.{Halts}
 use Rattle.rules.specs.declared.Phase.{Phase}
 use Rattle.rules.specs.declared.Phase.the-variants.{Awaiting, Busy, StatusWaiting, Stopped}
 use Rattle.rules.specs.Words.{byte}
-use Rattle.rules.specs.Held.{World, powered}
-use Rattle.rules.specs.Step.{Event, BusReset, Control, Packet, Report, StatusRequest, Machine, after}
+use Rattle.rules.specs.Held.{World}
+use Rattle.rules.specs.Step.{Event, BusReset, Control, Packet, Report, StatusRequest, Machine, reached}
 
 abbrev pub Bytes : List ℕ → Type 0
 Bytes s = (k : ℕ) → byte k s < 256
@@ -45,5 +45,5 @@ pub record WellFormed (w : World) : Type 0 where
   pub phase : sound (w .bridge .phase) (w .bridge .halts) ≡ true
 
 abbrev pub StaysWellFormed : Machine → Type 0
-StaysWellFormed s =
-    (memory : List ℕ) (history : List Event) → Bytes memory → ProperAll history → WellFormed (after s (powered memory) history)
+StaysWellFormed m =
+    (memory : List ℕ) (history : List Event) → Bytes memory → ProperAll history → WellFormed (m .shows (reached m memory history))
