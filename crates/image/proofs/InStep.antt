@@ -13,7 +13,8 @@ use Rattle.rules.specs.declared.Direction.the-variants.{Out, In}
 use Rattle.rules.specs.Words.{byte, over}
 use Rattle.rules.specs.Held.{world}
 use Rattle.rules.specs.Changes.{made}
-use Rattle.image.specs.Image.{decode, worldOf, put, Sized, PowersOn, InStep}
+use Rattle.rules.specs.Demands.Sizes.{Sized}
+use Rattle.image.specs.Image.{decode, worldOf, put, PowersOn, InStep}
 
 pub powers-on : PowersOn
 powers-on memory = refl
@@ -70,3 +71,23 @@ pub in-step : InStep
 in-step c bytes image memory n h z =
     by-bytes 16 bytes n (λ b. Puts c b image memory)
     (by-bytes 29 image h (λ i. Puts c (row 0 16 bytes) i memory) (put-bytes bytes image c z memory))
+
+-- ---- and it stays an image
+
+pub put-length : (c : Change) (image : List ℕ) → length image ≡ 29 → length (put c image) ≡ 29
+unfolding over
+put-length c image h = by-bytes 29 image h (λ i. length (put c i) ≡ 29) (go c)
+  where
+    go : (c : Change) → length (put c (row 0 29 image)) ≡ 29
+    go Nothing = refl
+    go (Sets configured) = refl
+    go Awaits = refl
+    go (Begins direction tag l) = refl
+    go (Finishes Out true status tag residue) = refl
+    go (Finishes In true status tag residue) = refl
+    go (Finishes direction false status tag residue) = refl
+    go Stops = refl
+    go Notes = refl
+    go (Clears Out) = refl
+    go (Clears In) = refl
+    go Ends = refl

@@ -1,26 +1,26 @@
--- No second outcome: two results, or two images left, that meet a function's promise are equal.
-use mathlib.Core.Path.{_≡_}
-use mathlib.Core.Bool.{Bool}
+-- No second outcome: each public function's own contract has one.
+use mathlib.Core.Path.{refl, ap}
 use mathlib.Core.List.{List}
 use Prim.Native.Nat.{ℕ}
-use Rattle.rules.specs.declared.Bridge.{Bridge}
-use Rattle.rules.specs.declared.Change.{Change}
-use Rattle.rules.specs.Words.{byte}
-use Rattle.rules.specs.Packets.{signatureOf}
+use Rattle.rules.specs.OneOutcome.{OneOutcome}
 use Rattle.rules.proofs.Unique.{only}
-use Rattle.image.specs.Image.{bytesOf, isMarked, decode, powered, put}
+use Rattle.image.proofs.«power_on» as PowerOn
+use Rattle.image.proofs.«signature_of» as SignatureOf
+use Rattle.image.proofs.«is_configured» as IsConfigured
+use Rattle.image.proofs.load as Load
+use Rattle.image.proofs.make as Make
 
-pub «power_on» : (now now' : List ℕ) → now ≡ powered → now' ≡ powered → now ≡ now'
-«power_on» now now' p q = only p q
+pub «power_on» : OneOutcome PowerOn.Kinds.ps PowerOn.Kinds.r PowerOn.Reads.Post
+«power_on» κs a r r' left left' p q = (refl, ap (λ (now : List ℕ). (now, tt)) (only p q))
 
-pub «signature_of» : (image : List ℕ) (r r' : ℕ) → r ≡ signatureOf (bytesOf image) → r' ≡ signatureOf (bytesOf image) → r ≡ r'
-«signature_of» image r r' p q = only p q
+pub «signature_of» : OneOutcome SignatureOf.Kinds.ps SignatureOf.Kinds.r SignatureOf.Reads.Post
+«signature_of» κs a r r' left left' p q = (only p q, refl)
 
-pub «is_configured» : (image : List ℕ) (r r' : Bool) → r ≡ isMarked (byte 24 image) → r' ≡ isMarked (byte 24 image) → r ≡ r'
-«is_configured» image r r' p q = only p q
+pub «is_configured» : OneOutcome IsConfigured.Kinds.ps IsConfigured.Kinds.r IsConfigured.Reads.Post
+«is_configured» κs a r r' left left' p q = (only p q, refl)
 
-pub load : (image : List ℕ) (r r' : Bridge) → r ≡ decode image → r' ≡ decode image → r ≡ r'
-load image r r' p q = only p q
+pub load : OneOutcome Load.Kinds.ps Load.Kinds.r Load.Reads.Post
+load κs a r r' left left' p q = (only p q, refl)
 
-pub make : (image : List ℕ) (change : Change) (now now' : List ℕ) → now ≡ put change image → now' ≡ put change image → now ≡ now'
-make image change now now' p q = only p q
+pub make : OneOutcome Make.Kinds.ps Make.Kinds.r Make.Reads.Post
+make κs a r r' left left' p q = (refl, ap (λ (now : List ℕ). (now, (tt, tt))) (only p q))

@@ -1,5 +1,5 @@
 -- The image of a bridge: twenty-nine bytes that stand for its state and hold its configuration bytes. Any twenty-nine bytes stand for some state.
-use Prim.Native.Nat.{ℕ, _%_, _^_, _<_}
+use Prim.Native.Nat.{ℕ, _%_}
 use mathlib.Core.Path.{_≡_}
 use mathlib.Core.Bool.{Bool, cond, not}
 use mathlib.Core.List.{List, _++_}
@@ -17,6 +17,7 @@ use Rattle.rules.specs.Held.{World, world, powerOnBytes, marks}
 use Rattle.rules.specs.Held.{powered as atPowerOn}
 use Rattle.rules.specs.Changes.{made}
 use Rattle.rules.specs.Packets.{inward}
+use Rattle.rules.specs.Demands.Sizes.{Sized}
 
 -- ---- read: at 0 the configuration bytes, at 16 the tag, at 20 L or the residue; at 24, 25 and 26 a mark each, set where it is not 0: configured, bulk
 -- out halted, bulk in halted; at 27 the phase, 0 awaiting, 1 busy, 2 status waiting, else stopped; at 28 its direction, its status, or whether a Mass
@@ -85,23 +86,11 @@ put Ends image = calm image
 
 -- ---- what was put is read back, proved in proofs/InStep
 
--- the numbers of a change have 32 bits, as their types say
-abbrev pub Sized : Change → Type 0
-Sized Nothing = Unit
-Sized (Sets c) = Unit
-Sized Awaits = Unit
-Sized (Begins direction tag l) = (tag < 2 ^ 32) × (l < 2 ^ 32)
-Sized (Finishes direction halts status tag residue) = (tag < 2 ^ 32) × (residue < 2 ^ 32)
-Sized Stops = Unit
-Sized Notes = Unit
-Sized (Clears direction) = Unit
-Sized Ends = Unit
-
 -- the image at power-on stands for the world at power-on
 abbrev pub PowersOn : Type 0
 PowersOn = (memory : List ℕ) → worldOf powered memory ≡ atPowerOn memory
 
--- an image whose configuration bytes were written and where a change was put stands for those bytes and the bridge with the change made
+-- an image whose configuration bytes were written and where a change with numbers of 32 bits was put stands for those bytes and the bridge with the change made
 abbrev pub InStep : Type 0
 InStep =
     (c : Change) (bytes image memory : List ℕ) → length bytes ≡ 16 → length image ≡ 29 → Sized c

@@ -1,26 +1,30 @@
--- No second outcome: two results, or final slices, that meet a public function's promise are equal.
-use mathlib.Core.Path.{_≡_}
+-- No second outcome: each public function's own contract has one.
+use mathlib.Core.Path.{refl, ap}
 use mathlib.Core.List.{List}
-use Prim.Native.Nat.{ℕ, _+_, _*_}
-use lib.ListN.{take, drop, replicate}
-use Rattle.rules.specs.Words.{bytes4, over}
+use Prim.Native.Nat.{ℕ}
+use Rattle.rules.specs.OneOutcome.{OneOutcome}
 use Rattle.rules.proofs.Unique.{only}
+use Rattle.lent.proofs.word as Word
+use Rattle.lent.proofs.long as Long
+use Rattle.lent.proofs.«bytes_of» as BytesOf
+use Rattle.lent.proofs.copy as Copy
+use Rattle.lent.proofs.«copy_part» as CopyPart
+use Rattle.lent.proofs.clear as Clear
 
-pub word : (a b r r' : ℕ) → r ≡ a + 256 * b → r' ≡ a + 256 * b → r ≡ r'
-word a b r r' p q = only p q
+pub word : OneOutcome Word.Kinds.ps Word.Kinds.r Word.Reads.Post
+word κs a r r' left left' p q = (only p q, refl)
 
-pub long : (a b c d r r' : ℕ) → r ≡ a + 256 * b + 65536 * (c + 256 * d) → r' ≡ a + 256 * b + 65536 * (c + 256 * d) → r ≡ r'
-long a b c d r r' p q = only p q
+pub long : OneOutcome Long.Kinds.ps Long.Kinds.r Long.Reads.Post
+long κs a r r' left left' p q = (only p q, refl)
 
-pub «bytes_of» : (n : ℕ) (r r' : List ℕ) → r ≡ bytes4 n → r' ≡ bytes4 n → r ≡ r'
-«bytes_of» n r r' p q = only p q
+pub «bytes_of» : OneOutcome BytesOf.Kinds.ps BytesOf.Kinds.r BytesOf.Reads.Post
+«bytes_of» κs a r r' left left' p q = (only p q, refl)
 
-pub copy : (dst : List ℕ) (at : ℕ) (src now now' : List ℕ) → now ≡ over dst at src → now' ≡ over dst at src → now ≡ now'
-copy dst at src now now' p q = only p q
+pub copy : OneOutcome Copy.Kinds.ps Copy.Kinds.r Copy.Reads.Post
+copy κs a r r' left left' p q = (refl, ap (λ (now : List ℕ). (now, (tt, (tt, tt)))) (only p q))
 
-pub «copy_part» : (dst src : List ℕ) (from n : ℕ) (now now' : List ℕ)
-    → now ≡ over dst 0 (take n (drop from src)) → now' ≡ over dst 0 (take n (drop from src)) → now ≡ now'
-«copy_part» dst src from n now now' p q = only p q
+pub «copy_part» : OneOutcome CopyPart.Kinds.ps CopyPart.Kinds.r CopyPart.Reads.Post
+«copy_part» κs a r r' left left' p q = (refl, ap (λ (now : List ℕ). (now, (tt, (tt, (tt, tt))))) (only p q))
 
-pub clear : (dst : List ℕ) (n : ℕ) (now now' : List ℕ) → now ≡ over dst 0 (replicate n 0) → now' ≡ over dst 0 (replicate n 0) → now ≡ now'
-clear dst n now now' p q = only p q
+pub clear : OneOutcome Clear.Kinds.ps Clear.Kinds.r Clear.Reads.Post
+clear κs a r r' left left' p q = (refl, ap (λ (now : List ℕ). (now, (tt, tt))) (only p q))

@@ -9,7 +9,7 @@ use lib.ListN.{length, drop, length-drop, length-append}
 use lib.Seq.{drop-drop}
 use borrow.Author.Tests.{ltb-true}
 use Rattle.rules.specs.Held.{World}
-use Rattle.rules.specs.Step.{Event, step, after}
+use Rattle.rules.specs.Step.{Event, step, rules, after}
 use Rattle.records.specs.declared.Head.{Head}
 use Rattle.records.specs.declared.Head.the-variants.{Whole, Torn, Part}
 use Rattle.records.specs.Records.{lengthOf, headOf}
@@ -29,7 +29,7 @@ module _ (last : Bool) (w : World) (s : List ℕ) where
 
 -- the run is the rules' own
 abbrev Own : World → Run → Type 0
-Own w r = (r .world ≡ after step w (r .events)) × (r .lines ≡ printed w (r .events) ++ cond (r .torn) tornLine [])
+Own w r = (r .world ≡ after rules w (r .events)) × (r .lines ≡ printed w (r .events) ++ cond (r .torn) tornLine [])
 
 pub runs-are-the-rules : RunsAreTheRules
 runs-are-the-rules zero last room w s = (refl, refl)

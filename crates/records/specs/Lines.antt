@@ -3,6 +3,7 @@ use Prim.Native.Nat.{ℕ, _+_, _/_, _%_}
 use mathlib.Core.Bool.{cond}
 use mathlib.Core.List.{List, [], _∷_, _++_}
 use lib.Dec.{ltb}
+use Rattle.rules.specs.Held.{World}
 use Rattle.rules.specs.Step.{Event, BusReset, Control, Packet, Report, StatusRequest, Outcome}
 use Rattle.rules.specs.Promise.{handedOut}
 
@@ -34,7 +35,7 @@ hexOf (Packet p room) = hexWord
 hexOf (Report direction failed amount) = hexByte
 hexOf (StatusRequest room) = hexByte
 
-abbrev pub line : Event → Outcome → List ℕ
+abbrev pub line : Event → Outcome World → List ℕ
 line e o = number (o .answer) ++ each (hexOf e) (handedOut e o) ++ 0x0A ∷ []
 
 -- "torn"

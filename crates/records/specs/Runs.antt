@@ -7,7 +7,7 @@ use lib.ListN.{length, drop}
 use lib.Dec.{ltb}
 use Rattle.rules.specs.Words.{laid}
 use Rattle.rules.specs.Held.{World, world}
-use Rattle.rules.specs.Step.{Event, step, after}
+use Rattle.rules.specs.Step.{Event, step, rules, after}
 use Rattle.records.specs.declared.Head.{Head}
 use Rattle.records.specs.declared.Head.the-variants.{Whole, Torn, Part}
 use Rattle.records.specs.declared.Ran.{Ran}
@@ -88,7 +88,7 @@ printed w (e ∷ es) = line e (step w e) ++ printed (step w e .next) es
 abbrev pub RunsAreTheRules : Type 0
 RunsAreTheRules = (n : ℕ) (last : Bool) (room : ℕ) (w : World) (s : List ℕ)
     → (let r : Run = run n last room w s in
-    (r .world ≡ after step w (r .events)) × (r .lines ≡ printed w (r .events) ++ cond (r .torn) tornLine []))
+    (r .world ≡ after rules w (r .events)) × (r .lines ≡ printed w (r .events) ++ cond (r .torn) tornLine []))
 
 -- and it leaves no record behind that is whole: what is left begins with a part, unless the room ran out or the stream is torn
 abbrev pub NothingIsLeft : Type 0

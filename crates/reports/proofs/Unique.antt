@@ -1,13 +1,10 @@
--- No second outcome: two outcomes that meet the promise are equal.
-use mathlib.Core.Path.{_≡_}
+-- No second outcome: each public function's own contract has one.
+use mathlib.Core.Path.{refl, ap}
 use mathlib.Core.List.{[]}
-use Prim.Native.Nat.{ℕ}
-use Rattle.rules.specs.declared.Bridge.{Bridge}
-use Rattle.rules.specs.Step.{Report}
-use Rattle.outcomes.specs.declared.Outcome.{Outcome}
-use Rattle.outcomes.specs.Outcomes.{Answers}
-use Rattle.outcomes.proofs.Unique.{told}
+use Rattle.rules.specs.OneOutcome.{OneOutcome}
+use Rattle.rules.proofs.Unique.{only}
+use Rattle.outcomes.proofs.Unique.{outcomeOf}
+use Rattle.reports.proofs.report as Report
 
-pub report : (b : Bridge) (direction failed amount : ℕ) (o o' : Outcome) → Answers b (λ n. Report direction failed amount) [] o []
-    → Answers b (λ n. Report direction failed amount) [] o' [] → o ≡ o'
-report b direction failed amount o o' p q = told b (λ n. Report direction failed amount) [] o o' [] [] p q .0
+pub report : OneOutcome Report.Kinds.ps Report.Kinds.r Report.Reads.Post
+report κs a r r' left left' p q = (ap outcomeOf (only (p [] []) (q [] [])), refl)

@@ -6,5 +6,6 @@ pub mod Cases
 pub mod Boundary
 pub mod Vendor
 pub mod WellFormed
+pub mod Sizes
 pub mod Examples
 pub mod ShutOut

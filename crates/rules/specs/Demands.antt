@@ -5,5 +5,6 @@ pub mod Operations
 pub mod Cases
 pub mod Boundary
 pub mod WellFormed
+pub mod Sizes
 pub mod Examples
 pub mod ShutOut

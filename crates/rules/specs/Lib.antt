@@ -10,3 +10,4 @@ pub mod Stopping
 pub mod Step
 pub mod Demands
 pub mod Promise
+pub mod OneOutcome

@@ -1,13 +1,11 @@
--- No second outcome: two outcomes, with the lent buffer as they leave it, that meet the promise are equal.
-use mathlib.Core.Path.{_≡_}
-use mathlib.Core.List.{List}
-use Prim.Native.Nat.{ℕ}
-use Rattle.rules.specs.declared.Bridge.{Bridge}
-use Rattle.rules.specs.Step.{StatusRequest}
-use Rattle.outcomes.specs.declared.Outcome.{Outcome}
-use Rattle.outcomes.specs.Outcomes.{Answers}
-use Rattle.outcomes.proofs.Unique.{told}
+-- No second outcome: each public function's own contract has one.
+use mathlib.Core.Path.{ap}
+use mathlib.Core.List.{[]}
+use Rattle.rules.specs.Promise.{Left}
+use Rattle.rules.specs.OneOutcome.{OneOutcome}
+use Rattle.rules.proofs.Unique.{only}
+use Rattle.outcomes.proofs.Unique.{outcomeOf}
+use Rattle.statuses.proofs.status as Status
 
-pub status : (b : Bridge) (reply : List ℕ) (o o' : Outcome) (now now' : List ℕ)
-    → Answers b StatusRequest reply o now → Answers b StatusRequest reply o' now' → (o ≡ o') × (now ≡ now')
-status b reply o o' now now' p q = told b StatusRequest reply o o' now now' p q
+pub status : OneOutcome Status.Kinds.ps Status.Kinds.r Status.Reads.Post
+status κs a r r' left left' p q = let same = only (p [] []) (q [] []) in (ap outcomeOf same, ap (λ (l : Left). (tt, (l .room, tt))) same)

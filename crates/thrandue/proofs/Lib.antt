@@ -1,3 +1,3 @@
 mod Laws
-pub mod StandsForIt
+pub mod Sequences
 pub mod Unique

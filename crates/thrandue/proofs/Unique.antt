@@ -1,65 +1,42 @@
--- No second outcome: two returned numbers, with the image and the lent rooms as they leave them, that meet a call's promise are equal.
-use mathlib.Core.Path.{_≡_, ap}
-use mathlib.Core.List.{List, []}
-use Prim.Native.Nat.{ℕ}
-use Rattle.rules.specs.Held.{configuration}
-use Rattle.rules.specs.Step.{Event, BusReset, Control, Packet, Report, StatusRequest}
+-- No second outcome: each public function's own contract has one.
+use mathlib.Core.Path.{refl, ap}
+use mathlib.Core.List.{[]}
+use Rattle.rules.specs.OneOutcome.{OneOutcome}
 use Rattle.rules.proofs.Unique.{only}
-use Rattle.image.specs.Image.{decode, powered}
-use Rattle.thrandue.specs.Calls.{Called, called, calls, Told, phaseNumber, haltNumber}
+use Rattle.thrandue.specs.Calls.{Called}
+use Rattle.thrandue.proofs.«thrandue_power_on» as ThranduePowerOn
+use Rattle.thrandue.proofs.«thrandue_bus_reset» as ThrandueBusReset
+use Rattle.thrandue.proofs.«thrandue_control» as ThrandueControl
+use Rattle.thrandue.proofs.«thrandue_packet» as ThranduePacket
+use Rattle.thrandue.proofs.«thrandue_report» as ThrandueReport
+use Rattle.thrandue.proofs.«thrandue_status» as ThrandueStatus
+use Rattle.thrandue.proofs.«thrandue_phase» as ThranduePhase
+use Rattle.thrandue.proofs.«thrandue_configuration» as ThrandueConfiguration
+use Rattle.thrandue.proofs.«thrandue_halts» as ThrandueHalts
 
-alike : (c : Called) (r r' : ℕ) (now now' m m' left left' : List ℕ) → called r now m left ≡ c → called r' now' m' left' ≡ c
-    → (r ≡ r') × (now ≡ now') × (m ≡ m') × (left ≡ left')
-alike c r r' now now' m m' left left' p q =
-    let same = only p q in (
-      ap (λ (x : Called). x .returned) same,
-      ap (λ (x : Called). x .image) same,
-      ap (λ (x : Called). x .memory) same,
-      ap (λ (x : Called). x .room) same,
-    )
+pub «thrandue_power_on» : OneOutcome ThranduePowerOn.Kinds.ps ThranduePowerOn.Kinds.r ThranduePowerOn.Reads.Post
+«thrandue_power_on» κs a r r' left left' p q = (ap (λ (c : Called). c .returned) (only p q), ap (λ (c : Called). (c .image, tt)) (only p q))
 
-told : (image : List ℕ) (event : ℕ → Event) (room : List ℕ) (r r' : ℕ) (now now' left left' : List ℕ) → Told image event room r now left
-    → Told image event room r' now' left' → (r ≡ r') × (now ≡ now') × (left ≡ left')
-told image event room r r' now now' left left' p q =
-    let same = alike (calls image [] event room) r r' now now' [] [] left left' (p []) (q []) in
-    (same .0, same .1, same .3)
+pub «thrandue_bus_reset» : OneOutcome ThrandueBusReset.Kinds.ps ThrandueBusReset.Kinds.r ThrandueBusReset.Reads.Post
+«thrandue_bus_reset» κs a r r' left left' p q = let same = only (p []) (q []) in (ap (λ (c : Called). c .returned) same, ap (λ (c : Called). (c .image, tt)) same)
 
-pub «thrandue_power_on» : (r r' : ℕ) (now now' : List ℕ) → called r now [] [] ≡ called 0 powered [] [] → called r' now' [] [] ≡ called 0 powered [] []
-    → (r ≡ r') × (now ≡ now')
-«thrandue_power_on» r r' now now' p q = let same = alike _ r r' now now' [] [] [] [] p q in (same .0, same .1)
+pub «thrandue_control» : OneOutcome ThrandueControl.Kinds.ps ThrandueControl.Kinds.r ThrandueControl.Reads.Post
+«thrandue_control» κs a r r' left left' p q = (ap (λ (c : Called). c .returned) (only p q), ap (λ (c : Called). (c .image, (tt, (tt, (c .memory, (c .room, tt)))))) (only p q))
 
-pub «thrandue_bus_reset» : (image : List ℕ) (r r' : ℕ) (now now' : List ℕ) → Told image (λ n. BusReset) [] r now [] → Told image (λ n. BusReset) [] r' now' []
-    → (r ≡ r') × (now ≡ now')
-«thrandue_bus_reset» image r r' now now' p q =
-    let same = told image (λ n. BusReset) [] r r' now now' [] [] p q in
-    (same .0, same .1)
+pub «thrandue_packet» : OneOutcome ThranduePacket.Kinds.ps ThranduePacket.Kinds.r ThranduePacket.Reads.Post
+«thrandue_packet» κs a r r' left left' p q = let same = only (p []) (q []) in (ap (λ (c : Called). c .returned) same, ap (λ (c : Called). (c .image, (tt, (c .room, tt)))) same)
 
-pub «thrandue_control» : (image setup host memory reply : List ℕ) (r r' : ℕ) (now now' m m' left left' : List ℕ)
-    → called r now m left ≡ calls image memory (Control setup host) reply → called r' now' m' left' ≡ calls image memory (Control setup host) reply
-    → (r ≡ r') × (now ≡ now') × (m ≡ m') × (left ≡ left')
-«thrandue_control» image setup host memory reply r r' now now' m m' left left' p q =
-    alike (calls image memory (Control setup host) reply) r r' now now' m m' left left' p q
+pub «thrandue_report» : OneOutcome ThrandueReport.Kinds.ps ThrandueReport.Kinds.r ThrandueReport.Reads.Post
+«thrandue_report» κs a r r' left left' p q = let same = only (p []) (q []) in (ap (λ (c : Called). c .returned) same, ap (λ (c : Called). (c .image, (tt, (tt, (tt, tt))))) same)
 
-pub «thrandue_packet» : (image packet operations : List ℕ) (r r' : ℕ) (now now' left left' : List ℕ)
-    → Told image (Packet packet) operations r now left → Told image (Packet packet) operations r' now' left' → (r ≡ r') × (now ≡ now') × (left ≡ left')
-«thrandue_packet» image packet operations r r' now now' left left' p q = told image (Packet packet) operations r r' now now' left left' p q
+pub «thrandue_status» : OneOutcome ThrandueStatus.Kinds.ps ThrandueStatus.Kinds.r ThrandueStatus.Reads.Post
+«thrandue_status» κs a r r' left left' p q = let same = only (p []) (q []) in (ap (λ (c : Called). c .returned) same, ap (λ (c : Called). (c .image, (c .room, tt))) same)
 
-pub «thrandue_report» : (image : List ℕ) (direction failed amount : ℕ) (r r' : ℕ) (now now' : List ℕ)
-    → Told image (λ n. Report direction failed amount) [] r now [] → Told image (λ n. Report direction failed amount) [] r' now' []
-    → (r ≡ r') × (now ≡ now')
-«thrandue_report» image direction failed amount r r' now now' p q =
-    let same = told image (λ n. Report direction failed amount) [] r r' now now' [] [] p q in
-    (same .0, same .1)
+pub «thrandue_phase» : OneOutcome ThranduePhase.Kinds.ps ThranduePhase.Kinds.r ThranduePhase.Reads.Post
+«thrandue_phase» κs a r r' left left' p q = (only p q, refl)
 
-pub «thrandue_status» : (image reply : List ℕ) (r r' : ℕ) (now now' left left' : List ℕ)
-    → Told image StatusRequest reply r now left → Told image StatusRequest reply r' now' left' → (r ≡ r') × (now ≡ now') × (left ≡ left')
-«thrandue_status» image reply r r' now now' left left' p q = told image StatusRequest reply r r' now now' left left' p q
+pub «thrandue_configuration» : OneOutcome ThrandueConfiguration.Kinds.ps ThrandueConfiguration.Kinds.r ThrandueConfiguration.Reads.Post
+«thrandue_configuration» κs a r r' left left' p q = (only p q, refl)
 
-pub «thrandue_phase» : (image : List ℕ) (r r' : ℕ) → r ≡ phaseNumber (decode image) → r' ≡ phaseNumber (decode image) → r ≡ r'
-«thrandue_phase» image r r' p q = only p q
-
-pub «thrandue_configuration» : (image : List ℕ) (r r' : ℕ) → r ≡ configuration (decode image) → r' ≡ configuration (decode image) → r ≡ r'
-«thrandue_configuration» image r r' p q = only p q
-
-pub «thrandue_halts» : (image : List ℕ) (r r' : ℕ) → r ≡ haltNumber (decode image) → r' ≡ haltNumber (decode image) → r ≡ r'
-«thrandue_halts» image r r' p q = only p q
+pub «thrandue_halts» : OneOutcome ThrandueHalts.Kinds.ps ThrandueHalts.Kinds.r ThrandueHalts.Reads.Post
+«thrandue_halts» κs a r r' left left' p q = (only p q, refl)

@@ -7,10 +7,9 @@ use Rattle.rules.specs.declared.Bridge.{Bridge}
 use Rattle.rules.specs.declared.Phase.{Phase}
 use Rattle.rules.specs.declared.Phase.the-variants.{Awaiting, Busy, StatusWaiting, Stopped}
 use Rattle.rules.specs.Words.{one}
-use Rattle.rules.specs.Held.{World}
-use Rattle.rules.specs.Step.{Event, change, step}
+use Rattle.rules.specs.Step.{Event}
 use Rattle.rules.specs.Promise.{Left, leaves}
-use Rattle.image.specs.Image.{worldOf, put, Sized}
+use Rattle.image.specs.Image.{worldOf, put}
 
 -- the number that a call returns, the image, the memory, and the lent room
 pub record Called : Type 0 where
@@ -52,13 +51,3 @@ phaseNumber b = numberOf (b .phase)
 -- 1 for bulk out, and 2 for bulk in
 abbrev pub haltNumber : Bridge → ℕ
 haltNumber b = one (b .halts .outward) + 2 * one (b .halts .inward)
-
--- ---- the image and the memory that a call leaves stand for the world that the rules leave, proved in proofs/StandsForIt
-
-abbrev pub StandsForIt : Type 0
-StandsForIt =
-    (image memory : List ℕ) (event : ℕ → Event) (room : List ℕ) → length image ≡ 29
-    → (let w : World = worldOf image memory in
-    let e : Event = event (length room) in
-    let c : Called = calls image memory event room in
-    Sized (change w e) → worldOf (c .image) (c .memory) ≡ step w e .next)

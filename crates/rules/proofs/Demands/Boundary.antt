@@ -143,7 +143,7 @@ after-kept : (t : Bool) (w : World) (e : Event) (es : List Event)
 after-kept true w e es = refl
 after-kept false w e es = refl
 
-after-append : (w : World) (es fs : List Event) → after rules w (es ++ fs) ≡ after rules (after rules w es) fs
+pub after-append : (w : World) (es fs : List Event) → after rules w (es ++ fs) ≡ after rules (after rules w es) fs
 after-append w [] fs = refl
 after-append w (e ∷ es) fs = after-append (step w e .next) es fs
 

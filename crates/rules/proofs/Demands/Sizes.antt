@@ -1,0 +1,102 @@
+-- Every change of an event whose packet is bytes has numbers of 32 bits; so has the bridge after any history of them.
+use mathlib.Core.Bool.{Bool, true, false, cond, not, _&&_}
+use mathlib.Core.List.{List, [], _∷_}
+use Prim.Native.Nat.{ℕ, _+_, _^_, _<_}
+use native.Mathlib.Omega.{arith}
+use lib.Dec.{eqb}
+use Rattle.rules.specs.declared.Bridge.{Bridge}
+use Rattle.rules.specs.declared.Change.{Change}
+use Rattle.rules.specs.declared.Change.the-variants.{Nothing, Sets, Awaits, Begins, Finishes, Stops, Notes, Clears, Ends}
+use Rattle.rules.specs.declared.Direction.{Direction}
+use Rattle.rules.specs.declared.Direction.the-variants.{Out, In}
+use Rattle.rules.specs.declared.Phase.{Phase}
+use Rattle.rules.specs.declared.Phase.the-variants.{Awaiting, Busy, StatusWaiting, Stopped}
+use Rattle.rules.specs.declared.Request.{Request}
+use Rattle.rules.specs.declared.Request.the-variants.{SetConfiguration, GetConfiguration, ClearFeature, GetStatus, GetMaxLun, MassStorageReset, LoadConfigData, ReadConfigData, SoftReset, BogusRead, Unknown}
+use Rattle.rules.specs.declared.Setup.{Setup}
+use Rattle.rules.specs.Words.{long}
+use Rattle.rules.specs.Held.{World, powered, bulkOut, isStopped}
+use Rattle.rules.specs.Changes.{made}
+use Rattle.rules.specs.Stopping.{clears, clearsPipe}
+use Rattle.rules.specs.Requests.{setupOf, requestOf, changeBy}
+use Rattle.rules.specs.Packets.{commandOf, signatureOf, recognises, commandTaken}
+use Rattle.rules.specs.Reports.{mismatch, residueOf, reportTaken}
+use Rattle.rules.specs.Step.{Event, BusReset, Control, Packet, Report, StatusRequest, answer, done, damaged, changeDone, change, step, rules, after}
+use Rattle.rules.specs.Demands.WellFormed.{Bytes}
+use Rattle.rules.specs.Demands.Sizes.{OfBytes, AllOfBytes, Numbers, Sized, StaysSized}
+
+either : (t : Bool) (c d : Change) → Sized c → Sized d → Sized (cond t c d)
+either true c d z y = z
+either false c d z y = y
+
+-- four bytes are a number of 32 bits
+long-sized : (p : List ℕ) → Bytes p → (k : ℕ) → long k p < 2 ^ 32
+long-sized p h k = omega (arith, h k, h (k + 1), h (k + 2), h (k + 2 + 1))
+
+command : (t : Bool) (p : List ℕ) → Bytes p → Sized (commandTaken t (commandOf p))
+command true p h = (long-sized p h 4, long-sized p h 8)
+command false p h = (long-sized p h 4, long-sized p h 8)
+
+residue-sized : (wrong : Bool) (l amount : ℕ) → l < 2 ^ 32 → residueOf wrong l amount < 2 ^ 32
+residue-sized true l amount h = h
+residue-sized false l amount h = omega (arith, h)
+
+report : (direction failed amount : ℕ) (p : Phase) → Numbers p → Sized (reportTaken direction failed amount p)
+report direction failed amount Awaiting n = tt
+report direction failed amount (Busy host tag l) n = (n .0, residue-sized (mismatch l host direction amount) l amount (n .1))
+report direction failed amount (StatusWaiting tag residue status) n = tt
+report direction failed amount (Stopped reset) n = tt
+
+clear : (p : Phase) (d : Direction) (other : Bool) → Sized (clearsPipe p d other)
+clear p d other = either (clears p) _ Nothing (either (isStopped p && not other) Ends (Clears d) tt tt) tt
+
+request : (r : Request) (s : Setup) (b : Bridge) → Sized (changeBy r s b)
+request SetConfiguration s b = tt
+request GetConfiguration s b = tt
+request ClearFeature s b =
+    either (eqb (s .index) bulkOut) _ _ (clear (b .phase) Out (b .halts .inward)) (clear (b .phase) In (b .halts .outward))
+request GetStatus s b = tt
+request GetMaxLun s b = tt
+request MassStorageReset s b = either (isStopped (b .phase)) Notes Awaits tt tt
+request LoadConfigData s b = tt
+request ReadConfigData s b = tt
+request SoftReset s b = either (isStopped (b .phase)) Nothing Awaits tt tt
+request BogusRead s b = tt
+request Unknown s b = tt
+
+taken : (w : World) (e : Event) → Numbers (w .bridge .phase) → OfBytes e → Sized (changeDone w e)
+taken w BusReset n h = tt
+taken w (Control setup host room) n h = request (requestOf (setupOf setup)) (setupOf setup) (w .bridge)
+taken w (Packet p room) n h = command (recognises (signatureOf (w .bytes)) p) p h
+taken w (Report direction failed amount) n h = report direction failed amount (w .bridge .phase) n
+taken w (StatusRequest room) n h = tt
+
+pub sized : (w : World) (e : Event) → Numbers (w .bridge .phase) → OfBytes e → Sized (change w e)
+unfolding change
+sized w e n h = either (done (answer w e)) (changeDone w e) _ (taken w e n h) (either (damaged (answer w e)) Stops Nothing tt tt)
+
+-- ---- what a change leaves
+
+leaves : (c : Change) (b : Bridge) → Sized c → Numbers (b .phase) → Numbers (made c b .phase)
+leaves Nothing b z n = n
+leaves (Sets c) b z n = tt
+leaves Awaits b z n = tt
+leaves (Begins direction tag l) b z n = z
+leaves (Finishes Out halts status tag residue) b z n = z
+leaves (Finishes In halts status tag residue) b z n = z
+leaves Stops b z n = tt
+leaves Notes b z n = tt
+leaves (Clears Out) b z n = n
+leaves (Clears In) b z n = n
+leaves Ends b z n = tt
+
+pub stepped : (w : World) (e : Event) → Numbers (w .bridge .phase) → OfBytes e → Numbers (step w e .next .bridge .phase)
+unfolding step
+stepped w e n h = leaves (change w e) (w .bridge) (sized w e n h) n
+
+run : (w : World) (history : List Event) → Numbers (w .bridge .phase) → AllOfBytes history → Numbers (after rules w history .bridge .phase)
+run w [] n h = n
+run w (e ∷ es) n h = run (step w e .next) es (stepped w e n (h .0)) (h .1)
+
+pub stays-sized : StaysSized rules
+stays-sized memory history h = run (powered memory) history tt h

@@ -1,0 +1,137 @@
+-- What calls leave stands for what the rules leave, from power-on to the last of them; and demand 3 is of the calls.
+use mathlib.Core.Path.{_≡_, refl, sym, ap, _∙_}
+use mathlib.Core.Bool.{Bool, true, false, cond, not, _&&_}
+use mathlib.Core.List.{List, [], _∷_, _++_}
+use Prim.Native.Nat.{ℕ, _+_}
+use native.Mathlib.Omega.{arith}
+use lib.ListN.{length, drop, length-append, length-drop}
+use Rattle.rules.specs.declared.Request.the-variants.{LoadConfigData}
+use Rattle.rules.specs.Words.{word, over, laid}
+use Rattle.rules.specs.Held.{World}
+use Rattle.rules.specs.Requests.{setupOf, requestOf, isA, inMemory}
+use Rattle.rules.specs.Step.{Event, BusReset, Control, Packet, Report, StatusRequest, answer, done, bytesDone, change, step, rules, after, reached}
+use Rattle.rules.specs.Promise.{handedOut}
+use Rattle.rules.specs.Demands.Boundary.{statusIn, Silent}
+use Rattle.rules.specs.Demands.Sizes.{AllOfBytes, Numbers}
+use Rattle.rules.proofs.Rows.{over-length}
+use Rattle.rules.proofs.Demands.Boundary.{after-append, silence, resumption}
+use Rattle.rules.proofs.Demands.Sizes.{sized, stepped, stays-sized}
+use Rattle.image.specs.Image.{bytesOf, powered, worldOf}
+use Rattle.image.proofs.InStep.{in-step, put-length}
+use Rattle.thrandue.specs.Calls.{returns}
+use Rattle.thrandue.specs.Sequences.{StandsForIt, Call, eventOf, eventsOf, Learnt, learnt, Parts, calling, left, learns, leftSince, standsFor, ruled, FromPowerOn, Hushed, AllHushed, CallsAreSilent, CallsResume}
+use Rattle.thrandue.proofs.Laws.{sixteen}
+
+-- ---- one call. The configuration bytes stay sixteen.
+
+written : (bytes : List ℕ) (e : Event) → length (bytesDone bytes e) ≡ length bytes
+written bytes BusReset = refl
+written bytes (Control setup host room) = go (isA LoadConfigData (requestOf (setupOf setup)) && not (inMemory (word 2 setup)))
+  where
+    go : (t : Bool) → length (cond t (over bytes (word 4 setup) host) bytes) ≡ length bytes
+    go true = over-length bytes (word 4 setup) host
+    go false = refl
+written bytes (Packet p room) = refl
+written bytes (Report direction failed amount) = refl
+written bytes (StatusRequest room) = refl
+
+sixteen-left : (image memory : List ℕ) (e : Event) → length image ≡ 29 → length (step (worldOf image memory) e .next .bytes) ≡ 16
+unfolding step
+sixteen-left image memory e h = go (done (answer (worldOf image memory) e)) ∙ sixteen image (omega arith)
+  where
+    go : (t : Bool) → length (cond t (bytesDone (bytesOf image) e) (bytesOf image)) ≡ length (bytesOf image)
+    go true = written (bytesOf image) e
+    go false = refl
+
+pub stands-for-it : StandsForIt
+unfolding step
+stands-for-it image memory event room h z =
+    let w : World = worldOf image memory in
+    let e : Event = event (length room) in
+    in-step (change w e) (step w e .next .bytes) image (step w e .next .memory) (sixteen-left image memory e h) h z
+
+-- ---- calls, one after the other
+
+module _ (s : Parts) (c : Call) (h : length (s .0) ≡ 29) where
+  abbrev next : Parts
+  next = (calling s c .image, calling s c .memory)
+
+  image-left : length (next .0) ≡ 29
+  image-left =
+      let bytes : List ℕ = step (standsFor s) (eventOf c) .next .bytes in
+      put-length (change (standsFor s) (eventOf c)) (bytes ++ drop 16 (s .0))
+      (omega (arith, length-append bytes (drop 16 (s .0)), length-drop 16 (s .0), sixteen-left (s .0) (s .1) (eventOf c) h))
+
+-- what is left of parts that stand for a world whose numbers have 32 bits
+record Runs (s : Parts) (cs : List Call) : Type 0 where
+  image : length (left s cs .0) ≡ 29
+  learnt-so : learns s cs ≡ ruled (standsFor s) cs
+  stands-so : standsFor (left s cs) ≡ after rules (standsFor s) (eventsOf cs)
+
+runs : (s : Parts) (cs : List Call) → length (s .0) ≡ 29 → Numbers (standsFor s .bridge .phase) → AllOfBytes (eventsOf cs) → Runs s cs
+runs s [] h n b = record { image = h; learnt-so = refl; stands-so = refl }
+runs s (c ∷ cs) h n b =
+    let w : World = standsFor s in
+    let e : Event = eventOf c in
+    let now : standsFor (next s c h) ≡ step w e .next = stands-for-it (s .0) (s .1) (c .event) (c .room) h (sized w e n (b .0)) in
+    let rest = runs (next s c h) cs (image-left s c h) (rw now (stepped w e n (b .0))) (b .1) in
+    record {
+      image = rest .image;
+      learnt-so =
+          ap (λ (ls : List Learnt). learnt (calling s c .returned) (calling s c .room) ∷ ls)
+          (rest .learnt-so ∙ ap (λ (v : World). ruled v cs) now);
+      stands-so = rest .stands-so ∙ ap (λ (v : World). after rules v (eventsOf cs)) now;
+    }
+
+since-on : (memory : List ℕ) (cs : List Call) → AllOfBytes (eventsOf cs) → Runs (powered, memory) cs
+since-on memory cs b = runs (powered, memory) cs refl tt b
+
+pub from-power-on : FromPowerOn
+from-power-on memory cs b = (since-on memory cs b .learnt-so, since-on memory cs b .stands-so)
+
+-- ---- calls in two parts
+
+events-append : (cs ds : List Call) → eventsOf (cs ++ ds) ≡ eventsOf cs ++ eventsOf ds
+events-append [] ds = refl
+events-append (c ∷ cs) ds = ap (λ (es : List Event). eventOf c ∷ es) (events-append cs ds)
+
+bytes-split : (cs ds : List Call) → AllOfBytes (eventsOf (cs ++ ds)) → AllOfBytes (eventsOf cs) × AllOfBytes (eventsOf ds)
+bytes-split [] ds b = (tt, b)
+bytes-split (c ∷ cs) ds b = let rest = bytes-split cs ds (b .1) in ((b .0, rest .0), rest .1)
+
+-- the world after a history and what follows it
+after-both : (memory : List ℕ) (history more : List Call) → AllOfBytes (eventsOf (history ++ more))
+    → standsFor (leftSince memory (history ++ more)) ≡ after rules (reached rules memory (eventsOf history)) (eventsOf more)
+after-both memory history more b =
+    since-on memory (history ++ more) b .stands-so ∙ ap (reached rules memory) (events-append history more)
+    ∙ after-append _ (eventsOf history) (eventsOf more)
+
+-- ---- demand 3
+
+hushed : (w : World) (e : Event) (room : List ℕ) → step w e .operations ≡ [] → statusIn e (step w e) ≡ []
+    → Hushed e room (learnt (returns (step w e .answer) (length (handedOut e (step w e)))) (laid (handedOut e (step w e)) room))
+hushed w BusReset room o s = tt
+hushed w (Control setup host n) room o s = tt
+hushed w (Packet p n) room o s = (step w (Packet p n) .answer, rw o)
+hushed w (Report direction failed amount) room o s = tt
+hushed w (StatusRequest n) room o s = (step w (StatusRequest n) .answer, rw s)
+
+all-hushed : (w : World) (cs : List Call) → Silent rules w (eventsOf cs) → AllHushed cs (ruled w cs)
+all-hushed w [] s = tt
+all-hushed w (c ∷ cs) s = (hushed w (eventOf c) (c .room) (s .0) (s .1), all-hushed (step w (eventOf c) .next) cs (s .2))
+
+pub calls-are-silent : CallsAreSilent
+calls-are-silent memory history d since b stop =
+    let parts = bytes-split history (d ∷ since) b in
+    let before = since-on memory history (parts .0) in
+    let numbers = rw (← (before .stands-so)) at (stays-sized memory (eventsOf history) (parts .0)) in
+    let here = runs (leftSince memory history) (d ∷ since) (before .image) numbers (parts .1) in
+    rw (here .learnt-so, before .stands-so) (all-hushed (reached rules memory (eventsOf history)) (d ∷ since) (silence memory (eventsOf history) (eventOf d) (eventsOf since) stop))
+
+pub calls-resume : CallsResume
+calls-resume memory history d since b kept all all' stop ends same =
+    after-both memory history (d ∷ since ++ b ∷ []) all
+    ∙ ap (λ (es : List Event). after rules (reached rules memory (eventsOf history)) (eventOf d ∷ es)) (events-append since (b ∷ []))
+    ∙ resumption memory (eventsOf history) (eventOf d) (eventsOf since) (eventOf b) stop ends
+    ∙ ap (after rules (reached rules memory (eventsOf history))) (sym same)
+    ∙ sym (after-both memory history kept all')
