@@ -1,5 +1,5 @@
 -- What calls leave stands for what the rules leave, from power-on to the last of them; and demand 3 is of the calls.
-use mathlib.Core.Path.{_≡_, refl, sym, ap, _∙_}
+use mathlib.Core.Path.{_≡_, refl, sym, ap, subst, _∙_}
 use mathlib.Core.Bool.{Bool, true, false, cond, not, _&&_}
 use mathlib.Core.List.{List, [], _∷_, _++_}
 use Prim.Native.Nat.{ℕ, _+_}
@@ -74,7 +74,7 @@ runs s (c ∷ cs) h n b =
     let w : World = standsFor s in
     let e : Event = eventOf c in
     let now : standsFor (next s c h) ≡ step w e .next = stands-for-it (s .0) (s .1) (c .event) (c .room) h (sized w e n (b .0)) in
-    let rest = runs (next s c h) cs (image-left s c h) (rw now (stepped w e n (b .0))) (b .1) in
+    let rest = runs (next s c h) cs (image-left s c h) (subst (λ (v : World). Numbers (v .bridge .phase)) (sym now) (stepped w e n (b .0))) (b .1) in
     record {
       image = rest .image;
       learnt-so =
@@ -126,7 +126,9 @@ calls-are-silent memory history d since b stop =
     let before = since-on memory history (parts .0) in
     let numbers = rw (← (before .stands-so)) at (stays-sized memory (eventsOf history) (parts .0)) in
     let here = runs (leftSince memory history) (d ∷ since) (before .image) numbers (parts .1) in
-    rw (here .learnt-so, before .stands-so) (all-hushed (reached rules memory (eventsOf history)) (d ∷ since) (silence memory (eventsOf history) (eventOf d) (eventsOf since) stop))
+    let same = here .learnt-so ∙ ap (λ (w : World). ruled w (d ∷ since)) (before .stands-so) in
+    subst (AllHushed (d ∷ since)) (sym same)
+    (all-hushed (reached rules memory (eventsOf history)) (d ∷ since) (silence memory (eventsOf history) (eventOf d) (eventsOf since) stop))
 
 pub calls-resume : CallsResume
 calls-resume memory history d since b kept all all' stop ends same =

@@ -110,10 +110,10 @@ CallsAreSilent =
 abbrev pub CallsResume : Type 0
 CallsResume =
     (memory : List ℕ) (history : List Call) (d : Call) (since : List Call) (b : Call) (kept : List Call)
-    → AllOfBytes (eventsOf (history ++ d ∷ since ++ b ∷ [])) → AllOfBytes (eventsOf (history ++ kept))
+    → AllOfBytes (eventsOf (history ++ (d ∷ since ++ b ∷ []))) → AllOfBytes (eventsOf (history ++ kept))
     → Stop rules memory (eventsOf history) (eventOf d) (eventsOf since)
     → (let stopped : World = step (reached rules memory (eventsOf history)) (eventOf d) .next in
     let last : World = after rules stopped (eventsOf since) in
     boundary rules last (eventOf b) ≡ true
     → eventsOf kept ≡ keptWrites rules stopped (eventsOf since) ++ keptBoundary rules last (eventOf b)
-    → standsFor (leftSince memory (history ++ d ∷ since ++ b ∷ [])) ≡ standsFor (leftSince memory (history ++ kept)))
+    → standsFor (leftSince memory (history ++ (d ∷ since ++ b ∷ []))) ≡ standsFor (leftSince memory (history ++ kept)))
