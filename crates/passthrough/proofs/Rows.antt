@@ -13,7 +13,7 @@ use Rattle.rules.specs.Words.{laid}
 use Rattle.rules.specs.Operations.{Operation, Read, code, codes, polls, selects, writes, reads, transfers, writeBlock, readBlock, commanded}
 use Rattle.lent.specs.Rows.{Put as PutNumbers}
 use Rattle.lent.proofs.Rows.{put-length as numbers-length, put-put as put-numbers, put-laid as numbers-laid}
-use Rattle.passthrough.specs.Rows.{Put, Fits, rising, accesses}
+use Rattle.passthrough.specs.Rows.{PutOperations, FitsOperations, rising, accesses}
 
 pub length-codes : (os : List Operation) → length (codes os) ≡ length os
 length-codes [] = refl
@@ -24,25 +24,25 @@ codes-append [] ys = refl
 codes-append (x ∷ xs) ys = ap (λ (l : List ℕ). code x ∷ l) (codes-append xs ys)
 
 -- a row of operations is the row of their codes
-as-codes : {a b : List ℕ} {i j : ℕ} {os : List Operation} → Put a i os b j → PutNumbers a i (codes os) b j
+as-codes : {a b : List ℕ} {i j : ℕ} {os : List Operation} → PutOperations a i os b j → PutNumbers a i (codes os) b j
 as-codes {os = os} p = record { stored = p .stored; moved = rw (length-codes os) (p .moved) }
 
-from-codes : {a b : List ℕ} {i j : ℕ} {os : List Operation} → PutNumbers a i (codes os) b j → Put a i os b j
+from-codes : {a b : List ℕ} {i j : ℕ} {os : List Operation} → PutNumbers a i (codes os) b j → PutOperations a i os b j
 from-codes {os = os} p = record { stored = p .stored; moved = rw (length-codes os) at (p .moved) }
 
-pub put-length : {a b : List ℕ} {i j : ℕ} {os : List Operation} → Put a i os b j → length b ≡ length a
+pub put-length : {a b : List ℕ} {i j : ℕ} {os : List Operation} → PutOperations a i os b j → length b ≡ length a
 put-length p = numbers-length (as-codes p)
 
-module _ {a b : List ℕ} {i j : ℕ} (xs ys : List Operation) (p : Put a i xs b j) where
-  pub put-put : {c : List ℕ} {k : ℕ} → Put b j ys c k → Put a i (xs ++ ys) c k
+module _ {a b : List ℕ} {i j : ℕ} (xs ys : List Operation) (p : PutOperations a i xs b j) where
+  pub put-put : {c : List ℕ} {k : ℕ} → PutOperations b j ys c k → PutOperations a i (xs ++ ys) c k
   put-put q = from-codes (rw (codes-append xs ys) (put-numbers (codes xs) (codes ys) (as-codes p) (as-codes q)))
 
   -- where xs and ys have room, ys has it behind xs
-  pub fits-next : Fits a i (xs ++ ys) → Fits b j ys
+  pub fits-next : FitsOperations a i (xs ++ ys) → FitsOperations b j ys
   fits-next h = omega (arith, length-append xs ys, p .moved, put-length p)
 
 -- what is put at the front of the room is laid there, and the next place is how many they are
-pub put-laid : {room after : List ℕ} {os : List Operation} {next : ℕ} → Put room 0 os after next → length os ≤ length room
+pub put-laid : {room after : List ℕ} {os : List Operation} {next : ℕ} → PutOperations room 0 os after next → length os ≤ length room
     → (next ≡ length os) × (after ≡ laid (codes os) room)
 put-laid {os = os} p h = (omega (arith, p .moved), numbers-laid (as-codes p) (rw (length-codes os, zero-add) h))
 
@@ -72,7 +72,7 @@ accesses-append true block xs ys = writes-append block xs ys
 accesses-append false block xs ys = reads-append block xs ys
 
 -- no register yet
-pub put-none : (w : Bool) (block l : List ℕ) (i : ℕ) → Put l i (accesses w block (rising 0)) l i
+pub put-none : (w : Bool) (block l : List ℕ) (i : ℕ) → PutOperations l i (accesses w block (rising 0)) l i
 put-none true block l i = record { stored = refl; moved = sym (add-zero i) }
 put-none false block l i = record { stored = refl; moved = sym (add-zero i) }
 
@@ -91,9 +91,9 @@ module _ (w : Bool) (block : List ℕ) where
       more : (k : ℕ) → length (f (rising n)) ≤ length (f (rising k)) → length (f (rising n)) ≤ length (f (rising (suc k)))
       more k e = rw (joins, length-append) (omega arith)
 
-  module _ {a b : List ℕ} {i j : ℕ} (n : ℕ) (p : Put a i (f (rising n)) b j) where
-    pub put-next : {c : List ℕ} {k : ℕ} → Put b j (f (n ∷ [])) c k → Put a i (f (rising (n + 1))) c k
+  module _ {a b : List ℕ} {i j : ℕ} (n : ℕ) (p : PutOperations a i (f (rising n)) b j) where
+    pub put-next : {c : List ℕ} {k : ℕ} → PutOperations b j (f (n ∷ [])) c k → PutOperations a i (f (rising (n + 1))) c k
     put-next q = rw (add-one, joins) (put-put _ _ p q)
 
-    pub fits-register : (m : ℕ) → n < m → Fits a i (f (rising m)) → Fits b j (f (n ∷ []))
+    pub fits-register : (m : ℕ) → n < m → FitsOperations a i (f (rising m)) → FitsOperations b j (f (n ∷ []))
     fits-register m h r = fits-next (f (rising n)) (f (n ∷ [])) p (rw (← joins) (omega (arith, grows m h)))

@@ -8,13 +8,13 @@ use mathlib.Core.Bool.{Bool, true, false}
 use Rattle.rules.specs.Operations.{Operation, codes, writes, reads}
 
 -- the operations os stand from `at` on in what was `before` and is now `after`, and `next` is the place behind them
-pub record Put (before : List ℕ) (at : ℕ) (os : List Operation) (after : List ℕ) (next : ℕ) : Type 0 where
+pub record PutOperations (before : List ℕ) (at : ℕ) (os : List Operation) (after : List ℕ) (next : ℕ) : Type 0 where
   pub stored : after ≡ sets before at (codes os)
   pub moved : next ≡ at + length os
 
 -- there is room for the operations os from `at` on
-abbrev pub Fits : List ℕ → ℕ → List Operation → Type 0
-Fits room at os = at + length os ≤ length room
+abbrev pub FitsOperations : List ℕ → ℕ → List Operation → Type 0
+FitsOperations room at os = at + length os ≤ length room
 
 -- the registers below n
 abbrev pub rising : ℕ → List ℕ

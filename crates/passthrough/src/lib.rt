@@ -6,7 +6,7 @@ ghost use mathlib.Core.List.{[], _∷_};
 ghost use Prim.Native.Nat.{_≤_, _<_};
 ghost use lib.Dec.{ltb};
 ghost use lib.ListN.{length};
-ghost use Rattle.passthrough.specs.Rows.{Put, Fits, rising, accesses};
+ghost use Rattle.passthrough.specs.Rows.{PutOperations, FitsOperations, rising, accesses};
 ghost use Rattle.passthrough.specs.Judgements.{judgement, judged};
 ghost use Rattle.rules.specs.Words.{byte, bit as bitTest, bitOf, laid};
 ghost use Rattle.rules.specs.Packets.{readable, recognised};
@@ -74,7 +74,7 @@ fn is_set(byte: u8, k: u8) -> bool
     requires { ⌜ k < 8 ⌝ }
     ensures { λ r. ⌜ r ≡ bitTest k byte ⌝ }
 {
-    (byte >> k) % 2 == 1
+    bit(byte, k) == 1
 }
 
 // The value if bit k of the byte is set, else 0.
@@ -127,7 +127,7 @@ fn count(block: &[u8], expected: u32) -> u16
 // Stores an operation if it is on: high byte kind, low byte the operand. Returns the place of the next.
 fn put(operations: &mut [u16], at: usize, on: bool, kind: u8, operand: u8) -> usize
     requires { ⌜ (on ≡ true → at < length (now operations)) ⌝ }
-    ensures { λ r. ⌜ ((o : Operation) → code o ≡ coded kind operand → Put (now (operations .entry)) at (only on o) (now (operations .exit)) r) ⌝ }
+    ensures { λ r. ⌜ ((o : Operation) → code o ≡ coded kind operand → PutOperations (now (operations .entry)) at (only on o) (now (operations .exit)) r) ⌝ }
 {
     if on {
         operations[at] = 0x100 * kind as u16 + operand as u16;
@@ -157,16 +157,16 @@ fn transfer_byte(action: u8, direction: Direction) -> u8
 
 // Poll, unless action bit 2 is set.
 fn put_poll(action: u8, operations: &mut [u16]) -> usize
-    requires { ⌜ Fits (now operations) 0 (only (not (bitTest 2 action)) Poll) ⌝ }
-    ensures { λ r. ⌜ Put (now (operations .entry)) 0 (only (not (bitTest 2 action)) Poll) (now (operations .exit)) r ⌝ }
+    requires { ⌜ FitsOperations (now operations) 0 (only (not (bitTest 2 action)) Poll) ⌝ }
+    ensures { λ r. ⌜ PutOperations (now (operations .entry)) 0 (only (not (bitTest 2 action)) Poll) (now (operations .exit)) r ⌝ }
 {
     let on = !is_set(action, POLL_ALT_STAT_OVERRIDE);
     put(operations, 0, on, POLL, 0)
 }
 
 fn put_select(action: u8, selection: u8, block: &[u8], operations: &mut [u16], at: usize) -> usize
-    requires { ⌜ (length (now block) ≡ 16) × (action ≡ byte 2 (now block)) × (selection ≡ byte 3 (now block)) × Fits (now operations) at (selects (now block)) ⌝ }
-    ensures { λ r. ⌜ Put (now (operations .entry)) at (selects (now (block .entry))) (now (operations .exit)) r ⌝ }
+    requires { ⌜ (length (now block) ≡ 16) × (action ≡ byte 2 (now block)) × (selection ≡ byte 3 (now block)) × FitsOperations (now operations) at (selects (now block)) ⌝ }
+    ensures { λ r. ⌜ PutOperations (now (operations .entry)) at (selects (now (block .entry))) (now (operations .exit)) r ⌝ }
 {
     let operand = select_byte(action, selection, block[11]);
     put(operations, at, true, SELECT, operand)
@@ -180,8 +180,8 @@ fn put_transfer(
     operations: &mut [u16],
     at: usize,
 ) -> usize
-    requires { ⌜ Fits (now operations) at (only (ltb 0 expected) (Transfer (transferByte action direction))) ⌝ }
-    ensures { λ r. ⌜ Put (now (operations .entry)) at (only (ltb 0 expected) (Transfer (transferByte action direction))) (now (operations .exit)) r ⌝ }
+    requires { ⌜ FitsOperations (now operations) at (only (ltb 0 expected) (Transfer (transferByte action direction))) ⌝ }
+    ensures { λ r. ⌜ PutOperations (now (operations .entry)) at (only (ltb 0 expected) (Transfer (transferByte action direction))) (now (operations .exit)) r ⌝ }
 {
     let operand = transfer_byte(action, direction);
     put(operations, at, expected > 0, TRANSFER, operand)
@@ -196,8 +196,8 @@ fn put_register(
     operations: &mut [u16],
     at: usize,
 ) -> usize
-    requires { ⌜ (length (now block) ≡ 16) × (selection ≡ byte 3 (now block)) × (register < 8) × Fits (now operations) at (accesses writes (now block) (register ∷ [])) ⌝ }
-    ensures { λ r. ⌜ Put (now (operations .entry)) at (accesses writes (now (block .entry)) (register ∷ [])) (now (operations .exit)) r ⌝ }
+    requires { ⌜ (length (now block) ≡ 16) × (selection ≡ byte 3 (now block)) × (register < 8) × FitsOperations (now operations) at (accesses writes (now block) (register ∷ [])) ⌝ }
+    ensures { λ r. ⌜ PutOperations (now (operations .entry)) at (accesses writes (now (block .entry)) (register ∷ [])) (now (operations .exit)) r ⌝ }
 {
     let on = is_set(selection, register);
     if writes {
@@ -216,8 +216,8 @@ fn put_registers(
     operations: &mut [u16],
     at: usize,
 ) -> usize
-    requires { ⌜ (length (now block) ≡ 16) × (selection ≡ byte 3 (now block)) × (n ≤ 8) × Fits (now operations) at (accesses writes (now block) (rising n)) ⌝ }
-    ensures { λ r. ⌜ Put (now (operations .entry)) at (accesses writes (now (block .entry)) (rising n)) (now (operations .exit)) r ⌝ }
+    requires { ⌜ (length (now block) ≡ 16) × (selection ≡ byte 3 (now block)) × (n ≤ 8) × FitsOperations (now operations) at (accesses writes (now block) (rising n)) ⌝ }
+    ensures { λ r. ⌜ PutOperations (now (operations .entry)) at (accesses writes (now (block .entry)) (rising n)) (now (operations .exit)) r ⌝ }
 {
     let mut next = at;
     for r in 0..n {
@@ -228,8 +228,8 @@ fn put_registers(
 
 // Select, then write 7 if selected. With action bit 1 set, the select follows the place of write 7 instead.
 fn put_command(action: u8, selection: u8, block: &[u8], operations: &mut [u16], at: usize) -> usize
-    requires { ⌜ (length (now block) ≡ 16) × (action ≡ byte 2 (now block)) × (selection ≡ byte 3 (now block)) × Fits (now operations) at (commanded (now block)) ⌝ }
-    ensures { λ r. ⌜ Put (now (operations .entry)) at (commanded (now (block .entry))) (now (operations .exit)) r ⌝ }
+    requires { ⌜ (length (now block) ≡ 16) × (action ≡ byte 2 (now block)) × (selection ≡ byte 3 (now block)) × FitsOperations (now operations) at (commanded (now block)) ⌝ }
+    ensures { λ r. ⌜ PutOperations (now (operations .entry)) at (commanded (now (block .entry))) (now (operations .exit)) r ⌝ }
 {
     if is_set(action, DEVICE_SELECTION_OVERRIDE) {
         let next = put_register(selection, block, true, COMMAND, operations, at);
@@ -249,8 +249,8 @@ fn make_writes(
     direction: Direction,
     operations: &mut [u16],
 ) -> usize
-    requires { ⌜ (length (now block) ≡ 16) × (action ≡ byte 2 (now block)) × (selection ≡ byte 3 (now block)) × Fits (now operations) 0 (writeBlock (now block) expected direction) ⌝ }
-    ensures { λ r. ⌜ Put (now (operations .entry)) 0 (writeBlock (now (block .entry)) expected direction) (now (operations .exit)) r ⌝ }
+    requires { ⌜ (length (now block) ≡ 16) × (action ≡ byte 2 (now block)) × (selection ≡ byte 3 (now block)) × FitsOperations (now operations) 0 (writeBlock (now block) expected direction) ⌝ }
+    ensures { λ r. ⌜ PutOperations (now (operations .entry)) 0 (writeBlock (now (block .entry)) expected direction) (now (operations .exit)) r ⌝ }
 {
     let at = put_poll(action, operations);
     let at = put_registers(selection, block, true, 6, operations, at);
@@ -261,8 +261,8 @@ fn make_writes(
 
 // Action bit 0 set: poll, select, reads of selected 0 to 7.
 fn make_reads(action: u8, selection: u8, block: &[u8], operations: &mut [u16]) -> usize
-    requires { ⌜ (length (now block) ≡ 16) × (action ≡ byte 2 (now block)) × (selection ≡ byte 3 (now block)) × Fits (now operations) 0 (readBlock (now block)) ⌝ }
-    ensures { λ r. ⌜ Put (now (operations .entry)) 0 (readBlock (now (block .entry))) (now (operations .exit)) r ⌝ }
+    requires { ⌜ (length (now block) ≡ 16) × (action ≡ byte 2 (now block)) × (selection ≡ byte 3 (now block)) × FitsOperations (now operations) 0 (readBlock (now block)) ⌝ }
+    ensures { λ r. ⌜ PutOperations (now (operations .entry)) 0 (readBlock (now (block .entry))) (now (operations .exit)) r ⌝ }
 {
     let at = put_poll(action, operations);
     let at = put_select(action, selection, block, operations, at);

@@ -218,12 +218,33 @@ fn placed(r: Request, writes: bool, memory: usize, s: Setup, host: usize, room: 
     granted(r, s, host, room)
 }
 
-// The table, by type and code as one number, the type its low byte.
+// Type and code of each row of the table, as one number: the type its low byte, as they come on the wire.
+const SET_CONFIGURATION: u16 = 0x00 + 256 * 0x09;
+
+const GET_CONFIGURATION: u16 = 0x80 + 256 * 0x08;
+
+const CLEAR_FEATURE: u16 = 0x02 + 256 * 0x01;
+
+const GET_STATUS: u16 = 0x82 + 256 * 0x00;
+
+const GET_MAX_LUN: u16 = 0xA1 + 256 * 0xFE;
+
+const MASS_STORAGE_RESET: u16 = 0x21 + 256 * 0xFF;
+
+const LOAD_CONFIG_DATA: u16 = 0x40 + 256 * 0x01;
+
+const READ_CONFIG_DATA: u16 = 0xC0 + 256 * 0x02;
+
+const SOFT_RESET: u16 = 0x40 + 256 * 0x03;
+
+const BOGUS_READ: u16 = 0xC0 + 256 * 0x01;
+
+// The table, by type and code.
 fn looked_up(memory: usize, s: Setup, host: usize, room: usize) -> Judgement
     ensures { λ j. ⌜ j ≡ judged (first (tableChecks (sizeFor memory) s (requestOf s) ++ dataChecks s host room)) s ⌝ }
 {
     match lent::word(s.kind, s.code) {
-        0x0900 => fixed(
+        SET_CONFIGURATION => fixed(
             Request::SetConfiguration,
             is_configuration(s),
             0,
@@ -231,15 +252,15 @@ fn looked_up(memory: usize, s: Setup, host: usize, room: usize) -> Judgement
             host,
             room,
         ),
-        0x0880 => fixed(Request::GetConfiguration, is_zero(s), 1, s, host, room),
-        0x0102 => fixed(Request::ClearFeature, is_pipe(s), 0, s, host, room),
-        0x0082 => fixed(Request::GetStatus, is_pipe(s), 2, s, host, room),
-        0xFEA1 => fixed(Request::GetMaxLun, is_zero(s), 1, s, host, room),
-        0xFF21 => fixed(Request::MassStorageReset, is_zero(s), 0, s, host, room),
-        0x0140 => placed(Request::LoadConfigData, true, memory, s, host, room),
-        0x02C0 => placed(Request::ReadConfigData, false, memory, s, host, room),
-        0x0340 => fixed(Request::SoftReset, is_zero(s), 0, s, host, room),
-        0x01C0 => granted(Request::BogusRead, s, host, room),
+        GET_CONFIGURATION => fixed(Request::GetConfiguration, is_zero(s), 1, s, host, room),
+        CLEAR_FEATURE => fixed(Request::ClearFeature, is_pipe(s), 0, s, host, room),
+        GET_STATUS => fixed(Request::GetStatus, is_pipe(s), 2, s, host, room),
+        GET_MAX_LUN => fixed(Request::GetMaxLun, is_zero(s), 1, s, host, room),
+        MASS_STORAGE_RESET => fixed(Request::MassStorageReset, is_zero(s), 0, s, host, room),
+        LOAD_CONFIG_DATA => placed(Request::LoadConfigData, true, memory, s, host, room),
+        READ_CONFIG_DATA => placed(Request::ReadConfigData, false, memory, s, host, room),
+        SOFT_RESET => fixed(Request::SoftReset, is_zero(s), 0, s, host, room),
+        BOGUS_READ => granted(Request::BogusRead, s, host, room),
         _ => Judgement::Refused(NOT_IN_TABLE),
     }
 }

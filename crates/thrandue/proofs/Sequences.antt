@@ -19,7 +19,7 @@ use Rattle.rules.proofs.Demands.Sizes.{sized, stepped, stays-sized}
 use Rattle.image.specs.Image.{bytesOf, powered, worldOf}
 use Rattle.image.proofs.InStep.{in-step, put-length}
 use Rattle.thrandue.specs.Calls.{returns}
-use Rattle.thrandue.specs.Sequences.{StandsForIt, Call, eventOf, eventsOf, Learnt, learnt, Parts, calling, left, learns, leftSince, standsFor, ruled, FromPowerOn, Hushed, AllHushed, CallsAreSilent, CallsResume}
+use Rattle.thrandue.specs.Sequences.{StandsForIt, Call, eventOf, eventsOf, Learnt, learnt, Parts, calling, partsAfter, learns, partsSince, standsFor, ruled, FromPowerOn, Hushed, AllHushed, CallsAreSilent, CallsResume}
 use Rattle.thrandue.proofs.Laws.{sixteen}
 
 -- ---- one call. The configuration bytes stay sixteen.
@@ -64,9 +64,9 @@ module _ (s : Parts) (c : Call) (h : length (s .0) ≡ 29) where
 
 -- what is left of parts that stand for a world whose numbers have 32 bits
 record Runs (s : Parts) (cs : List Call) : Type 0 where
-  image : length (left s cs .0) ≡ 29
+  image : length (partsAfter s cs .0) ≡ 29
   learnt-so : learns s cs ≡ ruled (standsFor s) cs
-  stands-so : standsFor (left s cs) ≡ after rules (standsFor s) (eventsOf cs)
+  stands-so : standsFor (partsAfter s cs) ≡ after rules (standsFor s) (eventsOf cs)
 
 runs : (s : Parts) (cs : List Call) → length (s .0) ≡ 29 → Numbers (standsFor s .bridge .phase) → AllOfBytes (eventsOf cs) → Runs s cs
 runs s [] h n b = record { image = h; learnt-so = refl; stands-so = refl }
@@ -101,7 +101,7 @@ bytes-split (c ∷ cs) ds b = let rest = bytes-split cs ds (b .1) in ((b .0, res
 
 -- the world after a history and what follows it
 after-both : (memory : List ℕ) (history more : List Call) → AllOfBytes (eventsOf (history ++ more))
-    → standsFor (leftSince memory (history ++ more)) ≡ after rules (reached rules memory (eventsOf history)) (eventsOf more)
+    → standsFor (partsSince memory (history ++ more)) ≡ after rules (reached rules memory (eventsOf history)) (eventsOf more)
 after-both memory history more b =
     since-on memory (history ++ more) b .stands-so ∙ ap (reached rules memory) (events-append history more)
     ∙ after-append _ (eventsOf history) (eventsOf more)
@@ -125,7 +125,7 @@ calls-are-silent memory history d since b stop =
     let parts = bytes-split history (d ∷ since) b in
     let before = since-on memory history (parts .0) in
     let numbers = rw (← (before .stands-so)) at (stays-sized memory (eventsOf history) (parts .0)) in
-    let here = runs (leftSince memory history) (d ∷ since) (before .image) numbers (parts .1) in
+    let here = runs (partsSince memory history) (d ∷ since) (before .image) numbers (parts .1) in
     let same = here .learnt-so ∙ ap (λ (w : World). ruled w (d ∷ since)) (before .stands-so) in
     subst (AllHushed (d ∷ since)) (sym same)
     (all-hushed (reached rules memory (eventsOf history)) (d ∷ since) (silence memory (eventsOf history) (eventOf d) (eventsOf since) stop))

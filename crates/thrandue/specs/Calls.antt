@@ -33,8 +33,8 @@ calls image memory event room =
     called (returns (l .answer) (l .count)) (put (l .change) (l .bytes ++ drop 16 image)) (l .memory) (l .room)
 
 -- a call that is lent no memory: with every memory, and it leaves it as it is
-abbrev pub Told : List ℕ → (ℕ → Event) → List ℕ → ℕ → List ℕ → List ℕ → Type 0
-Told image event room returned image' room' = (memory : List ℕ) → called returned image' memory room' ≡ calls image memory event room
+abbrev pub CallTold : List ℕ → (ℕ → Event) → List ℕ → ℕ → List ℕ → List ℕ → Type 0
+CallTold image event room returned image' room' = (memory : List ℕ) → called returned image' memory room' ≡ calls image memory event room
 
 -- ---- readers of the image
 

@@ -51,17 +51,17 @@ Parts = List ℕ × List ℕ
 abbrev pub calling : Parts → Call → Called
 calling s c = calls (s .0) (s .1) (c .event) (c .room)
 
-abbrev pub left : Parts → List Call → Parts
-left s [] = s
-left s (c ∷ cs) = left (calling s c .image, calling s c .memory) cs
+abbrev pub partsAfter : Parts → List Call → Parts
+partsAfter s [] = s
+partsAfter s (c ∷ cs) = partsAfter (calling s c .image, calling s c .memory) cs
 
 abbrev pub learns : Parts → List Call → List Learnt
 learns s [] = []
 learns s (c ∷ cs) = learnt (calling s c .returned) (calling s c .room) ∷ learns (calling s c .image, calling s c .memory) cs
 
 -- from thrandue_power_on on
-abbrev pub leftSince : List ℕ → List Call → Parts
-leftSince memory cs = left (powered, memory) cs
+abbrev pub partsSince : List ℕ → List Call → Parts
+partsSince memory cs = partsAfter (powered, memory) cs
 
 -- the world that an image and a memory stand for
 abbrev pub standsFor : Parts → World
@@ -81,7 +81,7 @@ abbrev pub FromPowerOn : Type 0
 FromPowerOn =
     (memory : List ℕ) (cs : List Call) → AllOfBytes (eventsOf cs)
     → (learns (powered, memory) cs ≡ ruled (atPowerOn memory) cs)
-    × (standsFor (leftSince memory cs) ≡ reached rules memory (eventsOf cs))
+    × (standsFor (partsSince memory cs) ≡ reached rules memory (eventsOf cs))
 
 -- ---- demand 3, of calls
 
@@ -103,7 +103,7 @@ abbrev pub CallsAreSilent : Type 0
 CallsAreSilent =
     (memory : List ℕ) (history : List Call) (d : Call) (since : List Call) → AllOfBytes (eventsOf (history ++ d ∷ since))
     → Stop rules memory (eventsOf history) (eventOf d) (eventsOf since)
-    → AllHushed (d ∷ since) (learns (leftSince memory history) (d ∷ since))
+    → AllHushed (d ∷ since) (learns (partsSince memory history) (d ∷ since))
 
 -- "After it, the bridge is in the state of one that never received the damaged packet nor anything since, save accepted vendor writes and the
 -- bus reset or configuration change, if one was the boundary": `kept` are the calls of these.
@@ -116,4 +116,4 @@ CallsResume =
     let last : World = after rules stopped (eventsOf since) in
     boundary rules last (eventOf b) ≡ true
     → eventsOf kept ≡ keptWrites rules stopped (eventsOf since) ++ keptBoundary rules last (eventOf b)
-    → standsFor (leftSince memory (history ++ (d ∷ since ++ b ∷ []))) ≡ standsFor (leftSince memory (history ++ kept)))
+    → standsFor (partsSince memory (history ++ (d ∷ since ++ b ∷ []))) ≡ standsFor (partsSince memory (history ++ kept)))

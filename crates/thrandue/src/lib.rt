@@ -8,7 +8,7 @@ ghost use Rattle.rules.specs.Held.{world, configuration};
 ghost use Rattle.rules.specs.Promise.{served};
 ghost use Rattle.rules.specs.Step.{BusReset, Control, Packet, Report, StatusRequest};
 ghost use Rattle.image.specs.Image.{bytesOf, decode, powered, put};
-ghost use Rattle.thrandue.specs.Calls.{called, returns, calls, Told, phaseNumber, haltNumber};
+ghost use Rattle.thrandue.specs.Calls.{called, returns, calls, CallTold, phaseNumber, haltNumber};
 use bridge::Outcome;
 use image::IMAGE;
 use requests::Judgement;
@@ -53,7 +53,7 @@ pub extern "C" fn thrandue_power_on(image: &mut [u8; IMAGE]) -> u32
 
 #[no_mangle]
 pub extern "C" fn thrandue_bus_reset(image: &mut [u8; IMAGE]) -> u32
-    ensures { λ r. ⌜ Told (now (image .entry)) (λ n. BusReset) [] r (now (image .exit)) [] ⌝ }
+    ensures { λ r. ⌜ CallTold (now (image .entry)) (λ n. BusReset) [] r (now (image .exit)) [] ⌝ }
 {
     leave(image, bridge::bus_reset())
 }
@@ -86,7 +86,7 @@ pub extern "C" fn thrandue_packet(
     packet: &[u8],
     operations: &mut [u16],
 ) -> u32
-    ensures { λ r. ⌜ Told (now (image .entry)) (Packet (now (packet .entry))) (now (operations .entry)) r (now (image .exit)) (now (operations .exit)) ⌝ }
+    ensures { λ r. ⌜ CallTold (now (image .entry)) (Packet (now (packet .entry))) (now (operations .entry)) r (now (image .exit)) (now (operations .exit)) ⌝ }
 {
     let b = image::load(image);
     let signature = image::signature_of(image);
@@ -100,7 +100,7 @@ pub extern "C" fn thrandue_report(
     failed: u8,
     amount: u32,
 ) -> u32
-    ensures { λ r. ⌜ Told (now (image .entry)) (λ n. Report direction failed amount) [] r (now (image .exit)) [] ⌝ }
+    ensures { λ r. ⌜ CallTold (now (image .entry)) (λ n. Report direction failed amount) [] r (now (image .exit)) [] ⌝ }
 {
     let b = image::load(image);
     leave(image, bridge::report(b, direction, failed, amount))
@@ -108,7 +108,7 @@ pub extern "C" fn thrandue_report(
 
 #[no_mangle]
 pub extern "C" fn thrandue_status(image: &mut [u8; IMAGE], reply: &mut [u8]) -> u32
-    ensures { λ r. ⌜ Told (now (image .entry)) StatusRequest (now (reply .entry)) r (now (image .exit)) (now (reply .exit)) ⌝ }
+    ensures { λ r. ⌜ CallTold (now (image .entry)) StatusRequest (now (reply .entry)) r (now (image .exit)) (now (reply .exit)) ⌝ }
 {
     let b = image::load(image);
     leave(image, bridge::status(b, reply))

@@ -2,13 +2,13 @@
 use mathlib.Core.Path.{_≡_}
 use Prim.Native.Nat.{_≤_, _-_}
 use native.Mathlib.Omega.{arith}
-use Rattle.passthrough.specs.Rows.{Put, rising, accesses}
+use Rattle.passthrough.specs.Rows.{PutOperations, rising, accesses}
 use Rattle.passthrough.proofs.Rows.{put-none, put-length, put-next, fits-register}
 use Rattle.passthrough.proofs.put_registers.Statement.{statement}
 use Rattle.passthrough.proofs.put_registers.Tie as tie
 
 abbrev Inv-loop : tie.InvT-loop
-Inv-loop selection block writes n operations₀ at next₀ r₀ operations next r = (r ≤ n) × Put operations₀ at (accesses writes block (rising r)) operations next
+Inv-loop selection block writes n operations₀ at next₀ r₀ operations next r = (r ≤ n) × PutOperations operations₀ at (accesses writes block (rising r)) operations next
 
 abbrev μ-loop : tie.MeasureT-loop
 μ-loop selection block writes n operations₀ at next₀ r₀ operations next r = n - r

@@ -17,17 +17,17 @@ use Rattle.rules.specs.Changes.{made}
 use Rattle.rules.specs.Reports.{malformed, mismatch, finished}
 use Rattle.rules.specs.Answers.{reportAnswer}
 use Rattle.rules.specs.Step.{Report, change, step, rules}
-use Rattle.rules.specs.Demands.Cases.{Inwards, Outwards, Case, cases, moved, fits, fitting, leaves, Each, ThirteenCases}
+use Rattle.rules.specs.Demands.Cases.{Inwards, Outwards, Case, cases, moved, fallsUnder, fitting, caseLeaves, Each, ThirteenCases}
 
 -- ---- where one case fits, what holds of the first that fits holds of each that does
 
 module _ (l : ℕ) (host : Direction) (direction amount : ℕ) (P : Case → Type 0) where
   abbrev First : List Case → Type 0
   First [] = Unit {0}
-  First (c ∷ cs) = cond (fits l host direction amount c) (P c) (First cs)
+  First (c ∷ cs) = cond (fallsUnder l host direction amount c) (P c) (First cs)
 
   abbrev Every : List Case → Type 0
-  Every cs = Each (λ c. fits l host direction amount c ≡ true → P c) cs
+  Every cs = Each (λ c. fallsUnder l host direction amount c ≡ true → P c) cs
 
   -- of no case, where none fits
   none-fits : (cs : List Case) → fitting l host direction amount cs ≡ 0 → Every cs
@@ -37,9 +37,9 @@ module _ (l : ℕ) (host : Direction) (direction amount : ℕ) (P : Case → Typ
 
   one-fits : (cs : List Case) → fitting l host direction amount cs ≡ 1 → First cs → Every cs
   one-fits [] n h = tt
-  one-fits (c ∷ cs) n h = go (fits l host direction amount c) refl n h (one-fits cs)
+  one-fits (c ∷ cs) n h = go (fallsUnder l host direction amount c) refl n h (one-fits cs)
     where
-      go : (t : Bool) → fits l host direction amount c ≡ t → one t + fitting l host direction amount cs ≡ 1 → cond t (P c) (First cs)
+      go : (t : Bool) → fallsUnder l host direction amount c ≡ t → one t + fitting l host direction amount cs ≡ 1 → cond t (P c) (First cs)
           → (fitting l host direction amount cs ≡ 1 → First cs → Every cs) → Every (c ∷ cs)
       go true e n h more = (λ x. h, none-fits cs (omega arith))
       go false e n h more = (λ x. absurd (false≢true (sym e ∙ x)), more (omega arith) h)
@@ -95,7 +95,7 @@ compared l amount = go (ltb amount l) (ltb l amount) refl refl
 module _ (tag l failed direction amount : ℕ) (b next : Bridge) where
   -- the bridge is left as a case says
   abbrev Right : Direction → Case → Type 0
-  Right host c = next ≡ leaves c host tag l failed amount b
+  Right host c = next ≡ caseLeaves c host tag l failed amount b
 
   abbrev Settled : Direction → Type 0
   Settled host =

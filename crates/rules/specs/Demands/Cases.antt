@@ -40,8 +40,8 @@ equal l amount = eqb l amount
 abbrev pub fewer : ℕ → ℕ → Bool
 fewer l amount = ltb l amount
 
-abbrev pub any : ℕ → ℕ → Bool
-any l amount = true
+abbrev pub anyAmount : ℕ → ℕ → Bool
+anyAmount l amount = true
 
 abbrev pub whole : ℕ → ℕ → ℕ
 whole l amount = l
@@ -54,16 +54,16 @@ none l amount = 0
 
 abbrev pub cases : List Case
 cases =
-    case No No any true none false ∷  -- 1  Hn = Dn
-    case No Inwards any false none false ∷  -- 2  Hn < Di
-    case No Outwards any false none false ∷  -- 3  Hn < Do
-    case Inwards No any true whole true ∷  -- 4  Hi > Dn
+    case No No anyAmount true none false ∷  -- 1  Hn = Dn
+    case No Inwards anyAmount false none false ∷  -- 2  Hn < Di
+    case No Outwards anyAmount false none false ∷  -- 3  Hn < Do
+    case Inwards No anyAmount true whole true ∷  -- 4  Hi > Dn
     case Inwards Inwards more true rest true ∷  -- 5  Hi > Di
     case Inwards Inwards equal true none false ∷  -- 6  Hi = Di
     case Inwards Inwards fewer false whole true ∷  -- 7  Hi < Di
-    case Inwards Outwards any false whole true ∷  -- 8  Hi <> Do
-    case Outwards No any true whole true ∷  -- 9  Ho > Dn
-    case Outwards Inwards any false whole true ∷  -- 10 Ho <> Di
+    case Inwards Outwards anyAmount false whole true ∷  -- 8  Hi <> Do
+    case Outwards No anyAmount true whole true ∷  -- 9  Ho > Dn
+    case Outwards Inwards anyAmount false whole true ∷  -- 10 Ho <> Di
     case Outwards Outwards more true rest true ∷  -- 11 Ho > Do
     case Outwards Outwards equal true none false ∷  -- 12 Ho = Do
     case Outwards Outwards fewer false whole true ∷  -- 13 Ho < Do
@@ -81,27 +81,27 @@ expected l host = cond (eqb l 0) No (wayOf host)
 abbrev pub moved : ℕ → ℕ → Way
 moved direction amount = cond (eqb amount 0) No (cond (eqb direction 1) Inwards Outwards)
 
-abbrev pub same : Way → Way → Bool
-same No No = true
-same No Inwards = false
-same No Outwards = false
-same Inwards No = false
-same Inwards Inwards = true
-same Inwards Outwards = false
-same Outwards No = false
-same Outwards Inwards = false
-same Outwards Outwards = true
+abbrev pub sameWay : Way → Way → Bool
+sameWay No No = true
+sameWay No Inwards = false
+sameWay No Outwards = false
+sameWay Inwards No = false
+sameWay Inwards Inwards = true
+sameWay Inwards Outwards = false
+sameWay Outwards No = false
+sameWay Outwards Inwards = false
+sameWay Outwards Outwards = true
 
-abbrev pub fits : ℕ → Direction → ℕ → ℕ → Case → Bool
-fits l host direction amount c = same (expected l host) (c .host) && same (moved direction amount) (c .drive) && (c .compares) l amount
+abbrev pub fallsUnder : ℕ → Direction → ℕ → ℕ → Case → Bool
+fallsUnder l host direction amount c = sameWay (expected l host) (c .host) && sameWay (moved direction amount) (c .drive) && (c .compares) l amount
 
 abbrev pub fitting : ℕ → Direction → ℕ → ℕ → List Case → ℕ
 fitting l host direction amount [] = 0
-fitting l host direction amount (c ∷ cs) = one (fits l host direction amount c) + fitting l host direction amount cs
+fitting l host direction amount (c ∷ cs) = one (fallsUnder l host direction amount c) + fitting l host direction amount cs
 
 -- the bridge that a case leaves
-abbrev pub leaves : Case → Direction → ℕ → ℕ → ℕ → ℕ → Bridge → Bridge
-leaves c host tag l failed amount b =
+abbrev pub caseLeaves : Case → Direction → ℕ → ℕ → ℕ → ℕ → Bridge → Bridge
+caseLeaves c host tag l failed amount b =
     halting (c .halts) host (inPhase (StatusWaiting tag ((c .residue) l amount) (cond (c .own) failed 2)) b)
 
 abbrev pub Each : (Case → Type 0) → List Case → Type 0
@@ -118,6 +118,6 @@ ThirteenCases m =
     → (fitting l host direction amount cases ≡ 1)
     × (m .takes s (Report direction failed amount) .answer ≡ 0)
     × Each
-    (λ c. fits l host direction amount c ≡ true
-    → m .shows (m .takes s (Report direction failed amount) .next) .bridge ≡ leaves c host tag l failed amount (m .shows s .bridge))
+    (λ c. fallsUnder l host direction amount c ≡ true
+    → m .shows (m .takes s (Report direction failed amount) .next) .bridge ≡ caseLeaves c host tag l failed amount (m .shows s .bridge))
     cases

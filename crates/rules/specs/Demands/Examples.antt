@@ -39,17 +39,17 @@ ready m = reached m (replicate 2048 0xFF) (configure ∷ [])
 abbrev pub shown : (m : Machine) → Outcome (m .State) → Outcome World
 shown m o = record { answer = o .answer; reply = o .reply; operations = o .operations; next = m .shows (o .next) }
 
-abbrev pub same : List ℕ → List ℕ → Bool
-same [] [] = true
-same [] (y ∷ ys) = false
-same (x ∷ xs) [] = false
-same (x ∷ xs) (y ∷ ys) = eqb x y && same xs ys
+abbrev pub sameBytes : List ℕ → List ℕ → Bool
+sameBytes [] [] = true
+sameBytes [] (y ∷ ys) = false
+sameBytes (x ∷ xs) [] = false
+sameBytes (x ∷ xs) (y ∷ ys) = eqb x y && sameBytes xs ys
 
 abbrev pub answers : ℕ → Outcome World → Bool
 answers n o = eqb (o .answer) n
 
 abbrev pub makes : List ℕ → Outcome World → Bool
-makes ops o = answers 0 o && same (o .operations) ops
+makes ops o = answers 0 o && sameBytes (o .operations) ops
 
 abbrev pub waitsWith : ℕ → ℕ → Phase → Bool
 waitsWith residue status Awaiting = false
