@@ -19,16 +19,16 @@ use Rattle.records.specs.declared.Head.the-variants.{Whole, Torn, Part}
 use Rattle.records.specs.declared.Turned.{Turned}
 use Rattle.records.specs.Records.{lengthOf}
 use Rattle.records.specs.Lines.{line}
-use Rattle.records.specs.Runs.{Run, eventIn, run, left, leftBy}
-use Rattle.records.specs.Printed.{Turns, ended, remains, before, isWhole, isTorn}
+use Rattle.records.specs.Runs.{Run, before, eventIn, run, left, leftBy}
+use Rattle.records.specs.Printed.{Turns, ended, remains, isWhole, isTorn}
 
 -- ---- a run, and what comes before it
 
-before-before : (es es' : List Event) (l l' : List ℕ) (u u' : ℕ) (r : Run)
+pub before-before : (es es' : List Event) (l l' : List ℕ) (u u' : ℕ) (r : Run)
     → before es l u (before es' l' u' r) ≡ before (es ++ es') (l ++ l') (u + u') r
 before-before es es' l l' u u' r = rw (append-assoc es es' (r .events), append-assoc l l' (r .lines), add-assoc u u' (r .used))
 
-before-none : (r : Run) → r ≡ before [] [] 0 r
+pub before-none : (r : Run) → r ≡ before [] [] 0 r
 before-none r = rw (zero-add (r .used))
 
 -- the rest matters where the head is whole

@@ -16,7 +16,7 @@ use Rattle.records.specs.declared.Printed.{Printed}
 use Rattle.records.specs.declared.Turned.{Turned}
 use Rattle.records.specs.Records.{lengthOf}
 use Rattle.records.specs.Lines.{number, each, line}
-use Rattle.records.specs.Runs.{Run, eventIn, turnIn}
+use Rattle.records.specs.Runs.{Run, before, eventIn, turnIn}
 
 -- the line of an outcome, with what it handed out at the front of `out`, and the bridge with its change made
 pub record Line (f : ℕ → List ℕ) (b : Bridge) (o : Outcome) (out room : List ℕ) (at : ℕ) (p : Printed) (now : List ℕ) : Type 0 where
@@ -37,11 +37,6 @@ abbrev pub remains : Head → World → Run → Run
 remains Whole w r = r
 remains Torn w r = ended true w
 remains Part w r = ended false w
-
--- events, their lines and the bytes that they fill, and then a run
-abbrev pub before : List Event → List ℕ → ℕ → Run → Run
-before es lines used r =
-    record { events = es ++ r .events; lines = lines ++ r .lines; used = used + r .used; torn = r .torn; world = r .world }
 
 abbrev pub turned : Head → Bridge → ℕ → ℕ → Turned
 turned head b used next = record { head = head; bridge = b; used = used; next = next }

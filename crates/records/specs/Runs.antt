@@ -29,6 +29,11 @@ rests w = record { events = []; lines = []; used = 0; torn = false; world = w }
 abbrev pub tears : World → Run
 tears w = record { events = []; lines = tornLine; used = 0; torn = true; world = w }
 
+-- events, their lines and the bytes that they fill, and then a run
+abbrev pub before : List Event → List ℕ → ℕ → Run → Run
+before es lines used r =
+    record { events = es ++ r .events; lines = lines ++ r .lines; used = used + r .used; torn = r .torn; world = r .world }
+
 abbrev pub eventIn : List ℕ → Event
 eventIn s = eventOf (kindOf s) (payloadOf s)
 
