@@ -19,7 +19,7 @@ use Rattle.records.specs.declared.Head.the-variants.{Whole, Torn, Part}
 use Rattle.records.specs.declared.Turned.{Turned}
 use Rattle.records.specs.Records.{lengthOf}
 use Rattle.records.specs.Lines.{line}
-use Rattle.records.specs.Runs.{Run, before, eventIn, run, left, leftBy}
+use Rattle.records.specs.Runs.{Run, before, eventIn, run, runLeft, leftByRun}
 use Rattle.records.specs.Printed.{Turns, ended, remains, isWhole, isTorn}
 
 -- ---- a run, and what comes before it
@@ -129,7 +129,7 @@ module _ (last : Bool) (s room : List ℕ) (all : Run) {b : Bridge} {bytes memor
   used-inside turns = omega (arith, so .inside, (rw (part-left s used) at turns) .inside, length-drop used s)
 
   pub ends : (whole && ltb 0 records) ≡ false → {torn : Bool} → torn ≡ isTorn head
-      → left (record { bridge = b; used = used; written = written; torn = torn }) bytes memory output ≡ leftBy all room
+      → runLeft (record { bridge = b; used = used; written = written; torn = torn }) bytes memory output ≡ leftByRun all room
   ends e t =
       let done : (isWhole head && ltb 0 records) ≡ false = rw is at e in
       let all-is : all ≡ before (so .events) (so .lines) used (ended (isTorn head) (world b bytes memory)) =

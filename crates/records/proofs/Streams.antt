@@ -14,21 +14,21 @@ use Rattle.records.specs.declared.Head.the-variants.{Whole, Torn, Part}
 use Rattle.records.specs.Records.{headOf}
 use Rattle.records.specs.Lines.{lineMost}
 use Rattle.records.specs.Runs.{Run, before, rests, turn, run}
-use Rattle.records.specs.Streams.{Round, stream, onward, served, Ended, whole, RoundsAreAFront, StreamsAreWhole}
+use Rattle.records.specs.Streams.{Round, stream, onward, rounds, Ended, whole, RoundsAreAFront, StreamsAreWhole}
 use Rattle.records.proofs.Heads.{part-empty}
 use Rattle.records.proofs.AsTheRules.{behind, first, next}
 use Rattle.records.proofs.Fronts.{whole-turns, Front, rests-front, more-came, front-onward, run-front}
 
-served-front : (w : World) (ts : List Round) (later : List ℕ) → Ended ts later → (room : ℕ) → Front room w (stream ts) later (served w ts)
-served-front w [] later ended room = rests-front room w [] later
-served-front w (t ∷ ts) later ended room =
-    let r = served w ts in
+rounds-front : (w : World) (ts : List Round) (later : List ℕ) → Ended ts later → (room : ℕ) → Front room w (stream ts) later (rounds w ts)
+rounds-front w [] later ended room = rests-front room w [] later
+rounds-front w (t ∷ ts) later ended room =
+    let r = rounds w ts in
     let s = drop (r .used) (stream (t ∷ ts)) in
-    front-onward room w (stream (t ∷ ts)) later r _ (more-came room w (stream ts) later (t .came) (served-front w ts (t .came ++ later) (ended .1) room))
+    front-onward room w (stream (t ∷ ts)) later r _ (more-came room w (stream ts) later (t .came) (rounds-front w ts (t .came ++ later) (ended .1) room))
     (run-front (length s) (t .last) (t .room) (room - length (r .lines)) (r .world) s later (ended .0))
 
 pub rounds-are-a-front : RoundsAreAFront
-rounds-are-a-front w ts later ended room = served-front w ts later ended room .same
+rounds-are-a-front w ts later ended room = rounds-front w ts later ended room .same
 
 -- ---- the end of a stream
 
@@ -46,10 +46,10 @@ took-nothing room w s l f u =
 -- the last of rounds, where it took nothing
 module _ (w : World) (t : Round) (ts : List Round) where
   abbrev all : Run
-  all = served w (t ∷ ts)
+  all = rounds w (t ∷ ts)
 
   abbrev was : Run
-  was = served w ts
+  was = rounds w ts
 
   abbrev left : List ℕ
   left = drop (was .used) (stream (t ∷ ts))

@@ -65,23 +65,23 @@ run (suc n) last room w s =
     turnIn room last w s (run n last (room - length (line e (step w e))) (step w e .next) (drop (4 + lengthOf s) s))
 
 -- everything that a call leaves. A block has no more records than bytes.
-pub record Left : Type 0 where
+pub record RunLeft : Type 0 where
   pub world : World
   pub used : ℕ
   pub written : ℕ
   pub torn : Bool
   pub output : List ℕ
 
-abbrev pub left : Ran → List ℕ → List ℕ → List ℕ → Left
-left r bytes memory output =
+abbrev pub runLeft : Ran → List ℕ → List ℕ → List ℕ → RunLeft
+runLeft r bytes memory output =
     record { world = world (r .bridge) bytes memory; used = r .used; written = r .written; torn = r .torn; output = output }
 
-abbrev pub leftBy : Run → List ℕ → Left
-leftBy r output =
+abbrev pub leftByRun : Run → List ℕ → RunLeft
+leftByRun r output =
     record { world = r .world; used = r .used; written = length (r .lines); torn = r .torn; output = laid (r .lines) output }
 
-abbrev pub leaves : Bool → World → List ℕ → List ℕ → Left
-leaves last w s output = leftBy (run (length s) last (length output) w s) output
+abbrev pub runLeaves : Bool → World → List ℕ → List ℕ → RunLeft
+runLeaves last w s output = leftByRun (run (length s) last (length output) w s) output
 
 -- ---- what holds of runs, proved in proofs/AsTheRules
 

@@ -25,10 +25,10 @@ abbrev pub onward : Run → Run → Run
 onward r next = cond (r .torn) r (before (r .events) (r .lines) (r .used) next)
 
 -- what rounds took: each of what those before it left, and of what came behind that
-abbrev pub served : World → List Round → Run
-served w [] = rests w
-served w (t ∷ ts) =
-    let r : Run = served w ts in
+abbrev pub rounds : World → List Round → Run
+rounds w [] = rests w
+rounds w (t ∷ ts) =
+    let r : Run = rounds w ts in
     let s : List ℕ = drop (r .used) (stream (t ∷ ts)) in
     onward r (run (length s) (t .last) (t .room) (r .world) s)
 
@@ -46,14 +46,14 @@ whole room w s = run (length s) true room w s
 -- what rounds took is a front of what the whole stream takes, whatever comes later: the whole goes on behind it with what they left
 abbrev pub RoundsAreAFront : Type 0
 RoundsAreAFront = (w : World) (ts : List Round) (later : List ℕ) → Ended ts later → (room : ℕ)
-    → (let r : Run = served w ts in
+    → (let r : Run = rounds w ts in
     lineMost + length (r .lines) ≤ room
     → whole room w (stream ts ++ later) ≡ onward r (whole (room - length (r .lines)) (r .world) (drop (r .used) (stream ts) ++ later)))
 
 -- and it is all of it where a torn record ended them, or the last of them, with the input ended and room for the longest line, took nothing
 abbrev pub StreamsAreWhole : Type 0
 StreamsAreWhole = (w : World) (t : Round) (ts : List Round) → Ended (t ∷ ts) [] → (room : ℕ)
-    → (let r : Run = served w (t ∷ ts) in
-    (r .torn ≡ true) ⊎ ((t .last ≡ true) × (lineMost ≤ t .room) × (r .used ≡ served w ts .used))
+    → (let r : Run = rounds w (t ∷ ts) in
+    (r .torn ≡ true) ⊎ ((t .last ≡ true) × (lineMost ≤ t .room) × (r .used ≡ rounds w ts .used))
     → lineMost + length (r .lines) ≤ room
     → whole room w (stream (t ∷ ts)) ≡ r)

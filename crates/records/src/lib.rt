@@ -4,7 +4,7 @@ ghost use Prim.Native.Nat.{_≤_};
 ghost use lib.ListN.{length};
 ghost use Rattle.rules.specs.Held.{world};
 ghost use Rattle.records.specs.Printed.{isWhole, isTorn};
-ghost use Rattle.records.specs.Runs.{left, leaves};
+ghost use Rattle.records.specs.Runs.{runLeft, runLeaves};
 
 mod events;
 mod lines;
@@ -69,7 +69,7 @@ pub fn run(
     memory: &mut [u8],
     output: &mut [u8],
 ) -> Ran
-    ensures { λ r. ⌜ left r (now (bytes .exit)) (now (memory .exit)) (now (output .exit)) ≡ leaves last (world b (now (bytes .entry)) (now (memory .entry))) (now (input .entry)) (now (output .entry)) ⌝ }
+    ensures { λ r. ⌜ runLeft r (now (bytes .exit)) (now (memory .exit)) (now (output .exit)) ≡ runLeaves last (world b (now (bytes .entry)) (now (memory .entry))) (now (input .entry)) (now (output .entry)) ⌝ }
     ensures { λ r. ⌜ (r .used ≤ length (now (input .entry))) × (r .written ≤ length (now (output .exit))) ⌝ }
 {
     let mut reply = [0u8; 4096];
