@@ -7,7 +7,7 @@ ghost use lib.ListN.{take, drop, replicate};
 ghost use Rattle.outcomes.specs.Outcomes.{outcome, leftBy};
 ghost use Rattle.rules.specs.Words.{over, one};
 ghost use Rattle.rules.specs.Held.{world, configuration};
-ghost use Rattle.rules.specs.Requests.{inMemory, haltOf, bytesAfter, memoryAfter};
+ghost use Rattle.rules.specs.Requests.{Known, inMemory, haltOf, bytesAfter, memoryAfter};
 ghost use Rattle.rules.specs.Step.{Control};
 ghost use Rattle.rules.specs.Promise.{leaves, served};
 
@@ -26,7 +26,7 @@ use rules::fields::MEMORY;
 
 // The host's bytes stand at their addresses, of the memory or of the configuration.
 fn load(s: Setup, host: &[u8], bytes: &mut [u8], memory: &mut [u8])
-    ensures { λ u. ⌜ (now (bytes .exit) ≡ bytesAfter Request.LoadConfigData s (now (host .entry)) (now (bytes .entry))) × (now (memory .exit) ≡ memoryAfter Request.LoadConfigData s (now (host .entry)) (now (memory .entry))) ⌝ }
+    ensures { λ u. ⌜ (now (bytes .exit) ≡ bytesAfter (Known Request.LoadConfigData) s (now (host .entry)) (now (bytes .entry))) × (now (memory .exit) ≡ memoryAfter (Known Request.LoadConfigData) s (now (host .entry)) (now (memory .entry))) ⌝ }
 {
     if s.value == MEMORY {
         lent::copy(memory, s.index as usize, host);
@@ -91,7 +91,7 @@ pub fn serve(
     memory: &mut [u8],
     reply: &mut [u8],
 ) -> Outcome
-    ensures { λ o. ⌜ leftBy o (now (bytes .exit)) (now (memory .exit)) (now (reply .exit)) ≡ served r s (now (host .entry)) (world b (now (bytes .entry)) (now (memory .entry))) (now (reply .entry)) ⌝ }
+    ensures { λ o. ⌜ leftBy o (now (bytes .exit)) (now (memory .exit)) (now (reply .exit)) ≡ served (Known r) s (now (host .entry)) (world b (now (bytes .entry)) (now (memory .entry))) (now (reply .entry)) ⌝ }
 {
     let phase = b.phase;
     match r {
@@ -114,7 +114,6 @@ pub fn serve(
             lent::clear(reply, s.length as usize);
             replied(s.length)
         }
-        Request::Unknown => done(0, Change::Nothing),
     }
 }
 

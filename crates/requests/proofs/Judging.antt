@@ -8,15 +8,15 @@ use lib.Dec.{eqb, ltb}
 use lib.ListN.{length}
 use borrow.Author.Tests.{eqb-true, eqb-false, ne-eqb, eq-eqb, ltb-true}
 use Rattle.rules.specs.declared.Request.{Request}
-use Rattle.rules.specs.declared.Request.the-variants.{Unknown}
 use Rattle.rules.specs.declared.Setup.{Setup}
 use Rattle.rules.specs.Words.{Check, first}
-use Rattle.rules.specs.Requests.{Row, table, lookup, setupOf, requestOf, needsConfiguration}
+use Rattle.rules.specs.Requests.{Named, Unknown, Known, Row, table, lookup, setupOf, requestOf, needsConfiguration}
 use Rattle.rules.specs.Answers.{tableChecks, dataChecks, requestChecks, requestAnswer}
 use Rattle.rules.proofs.Checks.{numbered, first-append}
+use Rattle.rules.specs.Step.{done}
 use Rattle.requests.specs.declared.Judgement.{Judgement}
 use Rattle.requests.specs.declared.Judgement.the-variants.{Refused}
-use Rattle.requests.specs.Judgements.{judged, judgedBy}
+use Rattle.requests.specs.Judgements.{judged, judgedAs, judgedBy}
 
 -- ---- the table
 
@@ -33,11 +33,11 @@ abbrev pairOf : Row → ℕ
 pairOf r = r .kind + 256 * r .code
 
 -- the request of the first row that has this pair and that the fields fit
-abbrev lookupPair : List Row → ℕ → Setup → Request
+abbrev lookupPair : List Row → ℕ → Setup → Named
 lookupPair [] pair s = Unknown
 lookupPair (r ∷ rs) pair s =
     cond (eqb pair (pairOf r) && (r .value) (s .value) && (r .index) (s .index) && (r .length) (s .length))
-    (r .names)
+    (Known (r .names))
     (lookupPair rs pair s)
 
 abbrev kindsAreBytes : List Row → Bool
@@ -75,19 +75,19 @@ unknown-at s word h e k = request-at s word word h e refl ∙ apart (Unit {0}) t
 -- ---- the judgement of a request
 
 module _ (m : ℕ) (s : Setup) (host room : ℕ) where
-  abbrev judgement : Request → Judgement
-  judgement r = judgedBy r s (first (tableChecks m s r ++ dataChecks s host room))
+  abbrev judgement : Named → Judgement
+  judgement r = judgedAs r s (first (tableChecks m s r ++ dataChecks s host room))
 
   -- of the one that the setup makes
-  pub judged-as : {j : Judgement} {r : Request} → requestOf s ≡ r → j ≡ judgement r → j ≡ judgement (requestOf s)
+  pub judged-as : {j : Judgement} {r : Named} → requestOf s ≡ r → j ≡ judgement r → j ≡ judgement (requestOf s)
   judged-as e k = k ∙ ap judgement (sym e)
 
   -- of one that it makes where its fields fit
-  pub judged-where : {j : Judgement} {fit test : Bool} (r : Request) (n : ℕ) → requestOf s ≡ cond (test && eqb (s .length) n) r Unknown → fit ≡ test
-      → j ≡ cond (fit && eqb (s .length) n) (judgement r) (Refused 5) → j ≡ judgement (requestOf s)
+  pub judged-where : {j : Judgement} {fit test : Bool} (r : Request) (n : ℕ) → requestOf s ≡ cond (test && eqb (s .length) n) (Known r) Unknown → fit ≡ test
+      → j ≡ cond (fit && eqb (s .length) n) (judgement (Known r)) (Refused 5) → j ≡ judgement (requestOf s)
   judged-where {test} r n e f k = judged-as e (rw f at k ∙ go (test && eqb (s .length) n))
     where
-      go : (t : Bool) → cond t (judgement r) (Refused 5) ≡ judgement (cond t r Unknown)
+      go : (t : Bool) → cond t (judgement (Known r)) (Refused 5) ≡ judgement (cond t (Known r) Unknown)
       go true = refl
       go false = refl
 
@@ -107,13 +107,18 @@ module _ (r : Request) (s : Setup) (cs ds : List Check) (n : numbered cs ≡ tru
 
 -- ---- the judgement of a setup
 
+-- a number that refuses does so whatever the request
+refuses : (q : Named) (s : Setup) (n : ℕ) → done n ≡ false → Refused n ≡ judgedAs q s n
+refuses Unknown s n d = refl
+refuses (Known r) s n d = rw d
+
 module _ (configured : Bool) (m : ℕ) (setup : List ℕ) (host room : ℕ) where
   abbrev verdict : Judgement
   verdict = judged (requestAnswer configured m setup host room) (setupOf setup)
 
   pub not-eight : (length setup ≡ 8 → ⊥) → Refused 1 ≡ verdict
   unfolding requestAnswer
-  not-eight n = rw (ne-eqb (length setup) 8 n)
+  not-eight n = rw (ne-eqb (length setup) 8 n) (refuses (requestOf (setupOf setup)) (setupOf setup) 1 refl)
 
   -- by what was read of an eight-byte setup
   module _ {s : Setup} (l : length setup ≡ 8) (is : s ≡ setupOf setup) where
@@ -122,7 +127,7 @@ module _ (configured : Bool) (m : ℕ) (setup : List ℕ) (host room : ℕ) wher
     read = rw (l, is)
 
     pub unready : (not configured && needsConfiguration (s .kind)) ≡ true → Refused 4 ≡ verdict
-    unready t = rw t at read
+    unready t = refuses (requestOf s) s 4 refl ∙ (rw t at read)
 
     pub ready : {j : Judgement} → (not configured && needsConfiguration (s .kind)) ≡ false → j ≡ judgement m s host room (requestOf s) → j ≡ verdict
     ready t k = k ∙ (rw t at read)

@@ -3,7 +3,7 @@ use Prim.Native.Nat.{ℕ}
 use mathlib.Core.Bool.{cond}
 use Rattle.rules.specs.declared.Request.{Request}
 use Rattle.rules.specs.declared.Setup.{Setup}
-use Rattle.rules.specs.Requests.{requestOf}
+use Rattle.rules.specs.Requests.{Named, Unknown, Known, requestOf}
 use Rattle.rules.specs.Step.{done}
 use Rattle.requests.specs.declared.Judgement.{Judgement}
 use Rattle.requests.specs.declared.Judgement.the-variants.{Refused, Granted}
@@ -11,5 +11,10 @@ use Rattle.requests.specs.declared.Judgement.the-variants.{Refused, Gran
 abbrev pub judgedBy : Request → Setup → ℕ → Judgement
 judgedBy r s answer = cond (done answer) (Granted r s) (Refused answer)
 
+-- no request is granted that is not in the table
+abbrev pub judgedAs : Named → Setup → ℕ → Judgement
+judgedAs Unknown s answer = Refused answer
+judgedAs (Known r) s answer = judgedBy r s answer
+
 abbrev pub judged : ℕ → Setup → Judgement
-judged answer s = judgedBy (requestOf s) s answer
+judged answer s = judgedAs (requestOf s) s answer

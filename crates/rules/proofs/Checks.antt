@@ -6,11 +6,10 @@ use Prim.Native.Nat.{ℕ}
 use lib.Dec.{eqb, ltb}
 use lib.ListN.{length}
 use borrow.Author.Tests.{eqb-true, eqb-false, not-true, not-false}
-use Rattle.rules.specs.declared.Request.{Request}
-use Rattle.rules.specs.declared.Request.the-variants.{LoadConfigData, Unknown}
+use Rattle.rules.specs.declared.Request.the-variants.{LoadConfigData}
 use Rattle.rules.specs.declared.Setup.{Setup}
 use Rattle.rules.specs.Words.{Check, first}
-use Rattle.rules.specs.Requests.{Row, table, fits, lookup, setupOf, requestOf, isA, inBytes, inMemory, address, sent}
+use Rattle.rules.specs.Requests.{Named, Unknown, Known, Row, table, fits, lookup, setupOf, requestOf, isA, inBytes, inMemory, address, sent}
 use Rattle.rules.specs.Answers.{requestChecks, requestAnswer}
 use Rattle.rules.specs.Step.{damaged}
 
@@ -72,9 +71,9 @@ request-undamaged configured m setup host room =
     (answer-has (λ n. not (damaged n)) (requestChecks configured m (length setup) (setupOf setup) (requestOf (setupOf setup)) host room) refl)
 
 -- Unknown, and the request of every row whose kind and code pass a test, have a property
-abbrev pub allRows : (ℕ → ℕ → Bool) → (Request → Bool) → List Row → Bool
+abbrev pub allRows : (ℕ → ℕ → Bool) → (Named → Bool) → List Row → Bool
 allRows test has [] = has Unknown
-allRows test has (r ∷ rs) = (not (test (r .kind) (r .code)) || has (r .names)) && allRows test has rs
+allRows test has (r ∷ rs) = (not (test (r .kind) (r .code)) || has (Known (r .names))) && allRows test has rs
 
 -- a row that a setup fits passes every test of kind and code that the setup passes
 row-passes : (test : ℕ → ℕ → Bool) (r : Row) (s : Setup) → fits r s ≡ true → test (s .kind) (s .code) ≡ true
@@ -88,15 +87,15 @@ row-passes test r s f h =
     both true false c d e h = absurd (false≢true h)
     both false b c d e h = absurd (false≢true h)
 
-lookup-has : (test : ℕ → ℕ → Bool) (has : Request → Bool) (rs : List Row) (s : Setup) → test (s .kind) (s .code) ≡ true
+lookup-has : (test : ℕ → ℕ → Bool) (has : Named → Bool) (rs : List Row) (s : Setup) → test (s .kind) (s .code) ≡ true
     → allRows test has rs ≡ true → has (lookup rs s) ≡ true
 lookup-has test has [] s h k = k
 lookup-has test has (r ∷ rs) s h k =
-    let t = and-eq-true-iff (not (test (r .kind) (r .code)) || has (r .names)) (allRows test has rs) .0 k in
-    picked has (fits r s) (r .names) (lookup rs s) (λ f. rw (row-passes test r s f h) at (t .0)) (lookup-has test has rs s h (t .1))
+    let t = and-eq-true-iff (not (test (r .kind) (r .code)) || has (Known (r .names))) (allRows test has rs) .0 k in
+    picked has (fits r s) (Known (r .names)) (lookup rs s) (λ f. rw (row-passes test r s f h) at (t .0)) (lookup-has test has rs s h (t .1))
 
 -- so has the request that a setup makes, if its kind and code pass the test
-pub request-has : (test : ℕ → ℕ → Bool) (has : Request → Bool) (s : Setup) → test (s .kind) (s .code) ≡ true
+pub request-has : (test : ℕ → ℕ → Bool) (has : Named → Bool) (s : Setup) → test (s .kind) (s .code) ≡ true
     → allRows test has table ≡ true → has (requestOf s) ≡ true
 unfolding requestOf
 request-has test has s = lookup-has test has table s
@@ -109,7 +108,7 @@ unfolding requestAnswer
 request-passed c m setup host room h = passed (requestChecks c m (length setup) (setupOf setup) (requestOf (setupOf setup)) host room) refl h
 
 -- LOAD_CONFIG_DATA goes out from the host
-load-goes-out : (s : Setup) → requestOf s ≡ LoadConfigData → ltb (s .kind) 0x80 ≡ true
+load-goes-out : (s : Setup) → requestOf s ≡ Known LoadConfigData → ltb (s .kind) 0x80 ≡ true
 load-goes-out s e = go (ltb (s .kind) 0x80) refl
   where
     go : (t : Bool) → ltb (s .kind) 0x80 ≡ t → t ≡ true
@@ -120,7 +119,7 @@ load-goes-out s e = go (ltb (s .kind) 0x80) refl
 -- an accepted write has a place and a writable address, and the host has sent it whole
 pub accepted-write : (c : Bool) (m : ℕ) (setup : List ℕ) (host room : ℕ)
     → (let s = setupOf setup in
-    requestOf s ≡ LoadConfigData → requestAnswer c m setup host room ≡ 0
+    requestOf s ≡ Known LoadConfigData → requestAnswer c m setup host room ≡ 0
     → ((inBytes (s .value) || inMemory (s .value)) ≡ true) × (address true m (s .value) (s .index) (s .length) ≡ true) × (host ≡ s .length))
 accepted-write c m setup host room e z =
     let s = setupOf setup in

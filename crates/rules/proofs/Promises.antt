@@ -12,11 +12,10 @@ use Rattle.rules.specs.declared.Change.the-variants.{Nothing, Sets, Awai
 use Rattle.rules.specs.declared.Direction.{Direction}
 use Rattle.rules.specs.declared.Phase.{Phase}
 use Rattle.rules.specs.declared.Phase.the-variants.{StatusWaiting}
-use Rattle.rules.specs.declared.Request.{Request}
 use Rattle.rules.specs.declared.Setup.{Setup}
 use Rattle.rules.specs.Words.{laid}
 use Rattle.rules.specs.Held.{World, world, sizeOf}
-use Rattle.rules.specs.Requests.{setupOf, requestOf, replyTo}
+use Rattle.rules.specs.Requests.{Named, setupOf, requestOf, replyTo}
 use Rattle.rules.specs.Packets.{commandOf, recognises, commandTaken, statusPacket}
 use Rattle.rules.specs.Reports.{hostNumber, mismatch, reportTaken}
 use Rattle.rules.specs.Answers.{requestAnswer, packetAnswer, reportAnswer, statusAnswer}
@@ -62,7 +61,7 @@ module _ (w : World) (setup host room : List ℕ) where
   unfolding step change
   control-done sixteen a =
       let s : Setup = setupOf setup in
-      let r : Request = requestOf s in
+      let r : Named = requestOf s in
       rw (
         ← reply-count w setup (length host) (length room) sixteen a,
         over-laid room (replyTo r s w) (reply-fits w setup (length host) (length room) sixteen a),

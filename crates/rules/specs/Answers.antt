@@ -5,12 +5,11 @@ use mathlib.Core.List.{List, [], _∷_, _++_}
 use lib.ListN.{length}
 use lib.Dec.{eqb, ltb}
 use Rattle.rules.specs.declared.Bridge.{Bridge}
-use Rattle.rules.specs.declared.Request.{Request}
-use Rattle.rules.specs.declared.Request.the-variants.{LoadConfigData, Unknown}
+use Rattle.rules.specs.declared.Request.the-variants.{LoadConfigData}
 use Rattle.rules.specs.declared.Setup.{Setup}
 use Rattle.rules.specs.Words.{Check, _if_, first}
 use Rattle.rules.specs.Held.{isAwaiting, isBusy, isStatusWaiting, isStopped}
-use Rattle.rules.specs.Requests.{setupOf, requestOf, isA, hasPlace, needsConfiguration, inBytes, inMemory, address, atEight, onePage, sent, returned}
+use Rattle.rules.specs.Requests.{Named, setupOf, requestOf, isA, isUnknown, hasPlace, needsConfiguration, inBytes, inMemory, address, atEight, onePage, sent, returned}
 use Rattle.rules.specs.Packets.{statusLayout, commandOf, valid, meaningful}
 use Rattle.rules.specs.Reports.{malformed}
 
@@ -30,9 +29,9 @@ placeChecks moves writes m place start n =
     programChecks (writes && inMemory place) start n
 
 -- those that go by the request
-abbrev pub tableChecks : ℕ → Setup → Request → List Check
+abbrev pub tableChecks : ℕ → Setup → Named → List Check
 tableChecks m s r =
-    5 if isA Unknown r ∷
+    5 if isUnknown r ∷
     placeChecks (hasPlace r) (isA LoadConfigData r) m (s .value) (s .index) (s .length)
 
 -- those of the data
@@ -43,7 +42,7 @@ dataChecks s host room =
     []
 
 -- "Order for requests: 1, 4, 5, 6, 7, 8, 9, 10, 2, 3."
-abbrev pub requestChecks : Bool → ℕ → ℕ → Setup → Request → ℕ → ℕ → List Check
+abbrev pub requestChecks : Bool → ℕ → ℕ → Setup → Named → ℕ → ℕ → List Check
 requestChecks configured m bytes s r host room =
     1 if not (eqb bytes 8) ∷
     4 if (not configured && needsConfiguration (s .kind)) ∷

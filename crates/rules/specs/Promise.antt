@@ -5,11 +5,10 @@ use Prim.Native.Nat.{ℕ}
 use lib.ListN.{length}
 use Rattle.rules.specs.declared.Bridge.{Bridge}
 use Rattle.rules.specs.declared.Change.{Change}
-use Rattle.rules.specs.declared.Request.{Request}
 use Rattle.rules.specs.declared.Setup.{Setup}
 use Rattle.rules.specs.Words.{laid, over}
 use Rattle.rules.specs.Held.{World, world}
-use Rattle.rules.specs.Requests.{replyTo, replies, changeBy, bytesAfter, memoryAfter}
+use Rattle.rules.specs.Requests.{Named, replyTo, replies, changeBy, bytesAfter, memoryAfter}
 use Rattle.rules.specs.Packets.{signatureOf}
 use Rattle.rules.specs.Step.{Event, BusReset, Control, Packet, Report, StatusRequest, Outcome, change, step}
 
@@ -52,6 +51,6 @@ ToldOf b signature event room answer count change now =
     (bytes memory : List ℕ) → signatureOf bytes ≡ signature → left answer count change bytes memory now ≡ leaves (world b bytes memory) event room
 
 -- what a control request leaves that no check refuses
-abbrev pub served : Request → Setup → List ℕ → World → List ℕ → Left
+abbrev pub served : Named → Setup → List ℕ → World → List ℕ → Left
 served r s host w room =
     left 0 (replies r s) (changeBy r s (w .bridge)) (bytesAfter r s host (w .bytes)) (memoryAfter r s host (w .memory)) (over room 0 (replyTo r s w))

@@ -1,6 +1,6 @@
 -- Control requests: the fields of a setup, the table, places and addresses, and what each request does.
 use Prim.Native.Nat.{ℕ, _+_, _-_, _/_, _%_}
-use mathlib.Core.Bool.{Bool, true, cond, not, _&&_, _||_}
+use mathlib.Core.Bool.{Bool, true, false, cond, not, _&&_, _||_}
 use mathlib.Core.List.{List, [], _∷_}
 use lib.ListN.{take, drop, replicate}
 use lib.Dec.{eqb, leb, ltb}
@@ -8,7 +8,7 @@ use Rattle.rules.specs.declared.Bridge.{Bridge}
 use Rattle.rules.specs.declared.Change.{Change}
 use Rattle.rules.specs.declared.Change.the-variants.{Nothing, Sets}
 use Rattle.rules.specs.declared.Request.{Request}
-use Rattle.rules.specs.declared.Request.the-variants.{SetConfiguration, GetConfiguration, ClearFeature, GetStatus, GetMaxLun, MassStorageReset, LoadConfigData, ReadConfigData, SoftReset, BogusRead, Unknown}
+use Rattle.rules.specs.declared.Request.the-variants.{SetConfiguration, GetConfiguration, ClearFeature, GetStatus, GetMaxLun, MassStorageReset, LoadConfigData, ReadConfigData, SoftReset, BogusRead}
 use Rattle.rules.specs.declared.Setup.{Setup}
 use Rattle.rules.specs.Words.{byte, word, one, over}
 use Rattle.rules.specs.Held.{World, configuration, bulkOut, bulkIn}
@@ -58,12 +58,16 @@ abbrev pub fits : Row → Setup → Bool
 fits r s =
     eqb (s .kind) (r .kind) && eqb (s .code) (r .code) && (r .value) (s .value) && (r .index) (s .index) && (r .length) (s .length)
 
-abbrev pub lookup : List Row → Setup → Request
-lookup [] s = Unknown
-lookup (r ∷ rs) s = cond (fits r s) (r .names) (lookup rs s)
+-- what a setup makes: a request of the table, or none, where "the pair, or a field fixed above, isn't in the table"
+pub data Named : Type 0 where
+  Unknown : Named
+  Known : (request : Request) → Named
 
--- the request that a setup makes, Unknown where "the pair, or a field fixed above, isn't in the table"
-unfoldable pub requestOf : Setup → Request
+abbrev pub lookup : List Row → Setup → Named
+lookup [] s = Unknown
+lookup (r ∷ rs) s = cond (fits r s) (Known (r .names)) (lookup rs s)
+
+unfoldable pub requestOf : Setup → Named
 requestOf s = lookup table s
 
 -- a request's place in the table, to test for one
@@ -78,13 +82,17 @@ rank LoadConfigData = 6
 rank ReadConfigData = 7
 rank SoftReset = 8
 rank BogusRead = 9
-rank Unknown = 10
 
-abbrev pub isA : Request → Request → Bool
-isA q r = eqb (rank r) (rank q)
+abbrev pub isA : Request → Named → Bool
+isA q Unknown = false
+isA q (Known r) = eqb (rank r) (rank q)
+
+abbrev pub isUnknown : Named → Bool
+isUnknown Unknown = true
+isUnknown (Known r) = false
 
 -- LOAD_CONFIG_DATA and READ_CONFIG_DATA, the two with a place
-abbrev pub hasPlace : Request → Bool
+abbrev pub hasPlace : Named → Bool
 hasPlace r = isA LoadConfigData r || isA ReadConfigData r
 
 -- ---- "a request whose type field says class or vendor or whose recipient is an endpoint" (USB 2.0, 9.3)
@@ -133,49 +141,49 @@ haltOf pipe b = cond (eqb pipe bulkOut) (b .halts .outward) (b .halts .inward)
 abbrev pub storeOf : ℕ → World → List ℕ
 storeOf place w = cond (inMemory place) (w .memory) (w .bytes)
 
-abbrev pub replyTo : Request → Setup → World → List ℕ
-replyTo SetConfiguration s w = []
-replyTo GetConfiguration s w = configuration (w .bridge) ∷ []
-replyTo ClearFeature s w = []
-replyTo GetStatus s w = one (haltOf (s .index) (w .bridge)) ∷ 0 ∷ []
-replyTo GetMaxLun s w = 0 ∷ []
-replyTo MassStorageReset s w = []
-replyTo LoadConfigData s w = []
-replyTo ReadConfigData s w = take (s .length) (drop (s .index) (storeOf (s .value) w))
-replyTo SoftReset s w = []
-replyTo BogusRead s w = replicate (s .length) 0
+abbrev pub replyTo : Named → Setup → World → List ℕ
+replyTo (Known SetConfiguration) s w = []
+replyTo (Known GetConfiguration) s w = configuration (w .bridge) ∷ []
+replyTo (Known ClearFeature) s w = []
+replyTo (Known GetStatus) s w = one (haltOf (s .index) (w .bridge)) ∷ 0 ∷ []
+replyTo (Known GetMaxLun) s w = 0 ∷ []
+replyTo (Known MassStorageReset) s w = []
+replyTo (Known LoadConfigData) s w = []
+replyTo (Known ReadConfigData) s w = take (s .length) (drop (s .index) (storeOf (s .value) w))
+replyTo (Known SoftReset) s w = []
+replyTo (Known BogusRead) s w = replicate (s .length) 0
 replyTo Unknown s w = []
 
 -- .. and how many bytes that is
-abbrev pub replies : Request → Setup → ℕ
-replies SetConfiguration s = 0
-replies GetConfiguration s = 1
-replies ClearFeature s = 0
-replies GetStatus s = 2
-replies GetMaxLun s = 1
-replies MassStorageReset s = 0
-replies LoadConfigData s = 0
-replies ReadConfigData s = s .length
-replies SoftReset s = 0
-replies BogusRead s = s .length
+abbrev pub replies : Named → Setup → ℕ
+replies (Known SetConfiguration) s = 0
+replies (Known GetConfiguration) s = 1
+replies (Known ClearFeature) s = 0
+replies (Known GetStatus) s = 2
+replies (Known GetMaxLun) s = 1
+replies (Known MassStorageReset) s = 0
+replies (Known LoadConfigData) s = 0
+replies (Known ReadConfigData) s = s .length
+replies (Known SoftReset) s = 0
+replies (Known BogusRead) s = s .length
 replies Unknown s = 0
 
-abbrev pub changeBy : Request → Setup → Bridge → Change
-changeBy SetConfiguration s b = Sets (eqb (s .value) 2)
-changeBy GetConfiguration s b = Nothing
-changeBy ClearFeature s b = clearFeature (s .index) b
-changeBy GetStatus s b = Nothing
-changeBy GetMaxLun s b = Nothing
-changeBy MassStorageReset s b = massStorageReset (b .phase)
-changeBy LoadConfigData s b = Nothing
-changeBy ReadConfigData s b = Nothing
-changeBy SoftReset s b = softReset (b .phase)
-changeBy BogusRead s b = Nothing
+abbrev pub changeBy : Named → Setup → Bridge → Change
+changeBy (Known SetConfiguration) s b = Sets (eqb (s .value) 2)
+changeBy (Known GetConfiguration) s b = Nothing
+changeBy (Known ClearFeature) s b = clearFeature (s .index) b
+changeBy (Known GetStatus) s b = Nothing
+changeBy (Known GetMaxLun) s b = Nothing
+changeBy (Known MassStorageReset) s b = massStorageReset (b .phase)
+changeBy (Known LoadConfigData) s b = Nothing
+changeBy (Known ReadConfigData) s b = Nothing
+changeBy (Known SoftReset) s b = softReset (b .phase)
+changeBy (Known BogusRead) s b = Nothing
 changeBy Unknown s b = Nothing
 
 -- LOAD_CONFIG_DATA "writes n bytes", the host's, from start on: of the memory or of the configuration bytes
-abbrev pub bytesAfter : Request → Setup → List ℕ → List ℕ → List ℕ
+abbrev pub bytesAfter : Named → Setup → List ℕ → List ℕ → List ℕ
 bytesAfter r s host bytes = cond (isA LoadConfigData r && not (inMemory (s .value))) (over bytes (s .index) host) bytes
 
-abbrev pub memoryAfter : Request → Setup → List ℕ → List ℕ → List ℕ
+abbrev pub memoryAfter : Named → Setup → List ℕ → List ℕ → List ℕ
 memoryAfter r s host m = cond (isA LoadConfigData r && inMemory (s .value)) (over m (s .index) host) m

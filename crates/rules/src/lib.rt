@@ -120,7 +120,7 @@ pub struct Setup {
     pub length: u16,
 }
 
-// The rows of the request table. Unknown: the pair, or a field that the table fixes, is not in it.
+// The rows of the request table.
 pub enum Request {
     SetConfiguration,
     GetConfiguration,
@@ -132,7 +132,6 @@ pub enum Request {
     ReadConfigData,
     SoftReset,
     BogusRead,
-    Unknown,
 }
 
 // What marks a kind of packet: its length, and its first four bytes as a number.

@@ -8,6 +8,7 @@ use Rattle.rules.specs.declared.Bridge.{Bridge}
 use Rattle.rules.specs.declared.Request.{Request}
 use Rattle.rules.specs.declared.Setup.{Setup}
 use Rattle.rules.specs.Held.{world}
+use Rattle.rules.specs.Requests.{Known}
 use Rattle.rules.specs.Step.{Event}
 use Rattle.rules.specs.Promise.{Left, leaves, served}
 use Rattle.outcomes.specs.declared.Outcome.{Outcome}
@@ -32,8 +33,8 @@ module _ (image memory : List ℕ) (event : ℕ → Event) (room : List ℕ) (o 
 
   -- with what a granted request leaves, of the state as it was loaded
   pub granted : (q : Request) (s : Setup) (host : List ℕ) {bytes now : List ℕ} {b : Bridge} → b ≡ decode image
-      → leftBy o bytes memory' room' ≡ served q s host (world b (bytesOf image) memory) room
-      → served q s host (worldOf image memory) room ≡ leaves (worldOf image memory) event room → now ≡ bytes ++ drop 16 image
+      → leftBy o bytes memory' room' ≡ served (Known q) s host (world b (bytesOf image) memory) room
+      → served (Known q) s host (worldOf image memory) room ≡ leaves (worldOf image memory) event room → now ≡ bytes ++ drop 16 image
       → {returned : ℕ} {image' : List ℕ} → (returned ≡ returns (o .answer) (o .count)) × (image' ≡ put (o .change) now)
       → called returned image' memory' room' ≡ calls image memory event room
   granted q s host e l g n r = written (rw e at l ∙ g) n r

@@ -6,6 +6,7 @@ ghost use lib.ListN.{length, drop};
 ghost use Rattle.outcomes.specs.Outcomes.{leftBy};
 ghost use Rattle.rules.specs.Held.{world, configuration};
 ghost use Rattle.rules.specs.Promise.{served};
+ghost use Rattle.rules.specs.Requests.{Known};
 ghost use Rattle.rules.specs.Step.{BusReset, Control, Packet, Report, StatusRequest};
 ghost use Rattle.image.specs.Image.{bytesOf, decode, powered, put};
 ghost use Rattle.thrandue.specs.Calls.{called, returns, calls, CallTold, phaseNumber, haltNumber};
@@ -38,7 +39,7 @@ fn serve(
     reply: &mut [u8],
 ) -> Outcome
     requires { ⌜ 16 ≤ length (now image) ⌝ }
-    ensures { λ o. ⌜ (leftBy o (bytesOf (now (image .exit))) (now (memory .exit)) (now (reply .exit)) ≡ served r s (now (host .entry)) (world b (bytesOf (now (image .entry))) (now (memory .entry))) (now (reply .entry))) × (now (image .exit) ≡ bytesOf (now (image .exit)) ++ drop 16 (now (image .entry))) ⌝ }
+    ensures { λ o. ⌜ (leftBy o (bytesOf (now (image .exit))) (now (memory .exit)) (now (reply .exit)) ≡ served (Known r) s (now (host .entry)) (world b (bytesOf (now (image .entry))) (now (memory .entry))) (now (reply .entry))) × (now (image .exit) ≡ bytesOf (now (image .exit)) ++ drop 16 (now (image .entry))) ⌝ }
 {
     bridge::serve(r, s, b, &mut image[0..16], host, memory, reply)
 }

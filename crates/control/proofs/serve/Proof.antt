@@ -91,12 +91,6 @@ clear-requires c κs = search needs
 replied-requires-2 : tie.Need-replied-requires-2
 replied-requires-2 c κs = search needs
 
-enum-told-11 : tie.Need-enum-told-11
-enum-told-11 c = search needs
-
-done-requires-6 : tie.Need-done-requires-6
-done-requires-6 c κs = search needs
-
 returns : tie.Need-returns
 unfolding over
 returns c = rw (c .before .before .enum-told .given .1, c .done .ensures)
@@ -159,10 +153,6 @@ same-length-9 c = search needs
 returns-10 : tie.Need-returns-10
 returns-10 c = rw (c .before .before .before .before .before .before .enum-told10 .given .1, c .replied2 .ensures, c .before .before .before .clear .ensures)
 
-returns-11 : tie.Need-returns-11
-unfolding over
-returns-11 c = rw (c .before .enum-told11 .given .1, c .done6 .ensures)
-
 pub serve-spec : {M : Type 1} → statement M
 serve-spec =
     tie.close
@@ -196,8 +186,6 @@ serve-spec =
     cast-clear
     clear-requires
     replied-requires-2
-    enum-told-11
-    done-requires-6
     returns
     same-length
     returns-2
@@ -216,5 +204,4 @@ serve-spec =
     returns-8
     returns-9
     same-length-9
-    returns-10
-    returns-11)
+    returns-10)

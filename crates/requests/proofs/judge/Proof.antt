@@ -8,7 +8,9 @@ use Rattle.requests.proofs.judge.Statement.{statement}
 use Rattle.requests.proofs.judge.Tie as tie
 
 returns : tie.Need-returns
-returns c = not-eight _ _ _ _ _ (c .if1 .taken)
+returns c =
+    let a = c .before .before .args in
+    not-eight (a .configured) (sizeFor (a .memory)) (a .setup .now) (a .host) (a .room) (c .if1 .taken)
 
 setup-of-requires : tie.Need-setup-of-requires
 setup-of-requires c κs = search needs

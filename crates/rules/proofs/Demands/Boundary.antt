@@ -11,12 +11,12 @@ use Rattle.rules.specs.declared.Change.the-variants.{Nothing, Stops}
 use Rattle.rules.specs.declared.Direction.the-variants.{Out, In}
 use Rattle.rules.specs.declared.Phase.the-variants.{Awaiting, Stopped}
 use Rattle.rules.specs.declared.Request.{Request}
-use Rattle.rules.specs.declared.Request.the-variants.{SetConfiguration, GetConfiguration, ClearFeature, GetStatus, GetMaxLun, MassStorageReset, LoadConfigData, ReadConfigData, SoftReset, BogusRead, Unknown}
+use Rattle.rules.specs.declared.Request.the-variants.{SetConfiguration, GetConfiguration, ClearFeature, GetStatus, GetMaxLun, MassStorageReset, LoadConfigData, ReadConfigData, SoftReset, BogusRead}
 use Rattle.rules.specs.declared.Setup.{Setup}
 use Rattle.rules.specs.Held.{World, world, powered, sizeOf, bulkOut, bulkIn, configuring, inPhase, halted}
 use Rattle.rules.specs.Changes.{made}
 use Rattle.rules.specs.Stopping.{clearsPipe}
-use Rattle.rules.specs.Requests.{setupOf, requestOf, isA, changeBy, bytesAfter, memoryAfter}
+use Rattle.rules.specs.Requests.{Named, Unknown, Known, setupOf, requestOf, isA, changeBy, bytesAfter, memoryAfter}
 use Rattle.rules.specs.Answers.{requestAnswer, packetAnswer, reportAnswer, statusAnswer}
 use Rattle.rules.specs.Step.{Event, BusReset, Control, Packet, Report, StatusRequest, change, step, rules, after, done, damaged}
 use Rattle.rules.specs.Demands.Boundary.{Ready, isBusReset, accepts, someHalt, clearsSecond, boundary, unbroken, keptWrites, statusIn, Silent, Stop, Silence, Resumption, resetAmong, NoEndWithoutReset, recovery, Recovery}
@@ -40,7 +40,7 @@ data Course (r : Bool) (w next running : World) (second ends sets resets writes 
       → Course r w next running second ends sets resets writes
 
 -- what a request leaves, accepted or not
-abbrev requested : Request → Setup → List ℕ → Bool → World → World
+abbrev requested : Named → Setup → List ℕ → Bool → World → World
 requested q s host t w =
     world (made (cond t (changeBy q s (w .bridge)) Nothing) (w .bridge))
     (cond t (bytesAfter q s host (w .bytes)) (w .bytes))
@@ -72,7 +72,7 @@ module _ (r : Bool) (b : Bridge) (bytes memory : List ℕ) (h : (b .halts .outwa
   standing = world (configuring true (inPhase (Stopped r) b)) bytes memory
 
   -- the course of a request, by whether it is accepted
-  abbrev RequestCourse : Request → Bool → Type 0
+  abbrev RequestCourse : Named → Bool → Type 0
   RequestCourse q t =
       let next = requested q s host t standing in
       let second = isA ClearFeature q && t && someHalt standing && not (someHalt next) in
@@ -80,19 +80,19 @@ module _ (r : Bool) (b : Bridge) (bytes memory : List ℕ) (h : (b .halts .outwa
       Course r standing next (requested q s host t (calmed standing)) second (second || sets || false) (sets || false)
       (isA MassStorageReset q && t) (isA LoadConfigData q && t)
 
-  request-course : (q : Request) (t : Bool) → RequestCourse q t
+  request-course : (q : Named) (t : Bool) → RequestCourse q t
   request-course q false = simp and-false (goes-on refl (stands b bytes memory h) refl)
-  request-course SetConfiguration true = ended refl refl (λ x. absurd (false≢true x))
-  request-course GetConfiguration true = goes-on refl (stands b bytes memory h) refl
-  request-course ClearFeature true =
+  request-course (Known SetConfiguration) true = ended refl refl (λ x. absurd (false≢true x))
+  request-course (Known GetConfiguration) true = goes-on refl (stands b bytes memory h) refl
+  request-course (Known ClearFeature) true =
       clear-course b bytes memory r (eqb (s .index) bulkOut) (b .halts .outward) (b .halts .inward) _ h
-  request-course GetStatus true = goes-on refl (stands b bytes memory h) refl
-  request-course GetMaxLun true = goes-on refl (stands b bytes memory h) refl
-  request-course MassStorageReset true = goes-on refl (stands b bytes memory h) refl
-  request-course LoadConfigData true = goes-on refl (stands b _ _ h) refl
-  request-course ReadConfigData true = goes-on refl (stands b bytes memory h) refl
-  request-course SoftReset true = goes-on refl (stands b bytes memory h) refl
-  request-course BogusRead true = goes-on refl (stands b bytes memory h) refl
+  request-course (Known GetStatus) true = goes-on refl (stands b bytes memory h) refl
+  request-course (Known GetMaxLun) true = goes-on refl (stands b bytes memory h) refl
+  request-course (Known MassStorageReset) true = goes-on refl (stands b bytes memory h) refl
+  request-course (Known LoadConfigData) true = goes-on refl (stands b _ _ h) refl
+  request-course (Known ReadConfigData) true = goes-on refl (stands b bytes memory h) refl
+  request-course (Known SoftReset) true = goes-on refl (stands b bytes memory h) refl
+  request-course (Known BogusRead) true = goes-on refl (stands b bytes memory h) refl
   request-course Unknown true = goes-on refl (stands b bytes memory h) refl
 
 -- the course of every event at a stop

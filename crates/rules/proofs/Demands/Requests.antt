@@ -13,7 +13,7 @@ use Rattle.rules.specs.declared.Request.the-variants.{LoadConfigData, Re
 use Rattle.rules.specs.declared.Setup.{Setup}
 use Rattle.rules.specs.Words.{byte, word, over}
 use Rattle.rules.specs.Held.{World, sizeOf}
-use Rattle.rules.specs.Requests.{setupOf, requestOf, needsConfiguration, inBytes, inMemory, address, isA, storeOf}
+use Rattle.rules.specs.Requests.{Known, setupOf, requestOf, needsConfiguration, inBytes, inMemory, address, isA, storeOf}
 use Rattle.rules.specs.Answers.{requestAnswer, packetAnswer, reportAnswer, statusAnswer}
 use Rattle.rules.specs.Step.{Event, BusReset, Control, Packet, Report, StatusRequest, answer, bytesDone, memoryDone, done, change, step, rules}
 use Rattle.rules.specs.Demands.Requests.{WholeFields, Unconfigured, Holds, ExactWrites, NoOtherWrites, ExactReads}
@@ -43,7 +43,7 @@ unconfigured w (StatusRequest room) c g = rw c
 -- ---- exact writes
 
 -- the pair 40, 01 names LOAD_CONFIG_DATA
-is-load : (s : Setup) → s .kind ≡ 0x40 → s .code ≡ 0x01 → requestOf s ≡ LoadConfigData
+is-load : (s : Setup) → s .kind ≡ 0x40 → s .code ≡ 0x01 → requestOf s ≡ Known LoadConfigData
 unfolding requestOf
 is-load s k c = rw (k, c)
 
@@ -113,7 +113,7 @@ pub exact-writes : ExactWrites rules
 unfolding step change
 exact-writes w setup host room sixteen i a =
     let pair = and-eq-true-iff (eqb (byte 0 setup) 0x40) (eqb (byte 1 setup) 0x01) .0 i in
-    let load : requestOf (setupOf setup) ≡ LoadConfigData = is-load (setupOf setup) (eqb-true _ _ (pair .0)) (eqb-true _ _ (pair .1)) in
+    let load : requestOf (setupOf setup) ≡ Known LoadConfigData = is-load (setupOf setup) (eqb-true _ _ (pair .0)) (eqb-true _ _ (pair .1)) in
     let p = accepted-write (w .bridge .configured) (sizeOf (w .memory)) setup (length host) room load a in
     rw (a, load)
     (held (sizeOf (w .memory)) (word 2 setup) (word 4 setup) (word 6 setup) (w .bytes) (w .memory) host sixteen (omega arith) (p .2) (p .0) (p .1))
@@ -147,14 +147,14 @@ no-other-writes w (StatusRequest room) h = untouched w (StatusRequest room) refl
 -- ---- exact reads
 
 -- the pair C0, 02 names READ_CONFIG_DATA
-is-read : (s : Setup) → s .kind ≡ 0xC0 → s .code ≡ 0x02 → requestOf s ≡ ReadConfigData
+is-read : (s : Setup) → s .kind ≡ 0xC0 → s .code ≡ 0x02 → requestOf s ≡ Known ReadConfigData
 unfolding requestOf
 is-read s k c = rw (k, c)
 
 pub exact-reads : ExactReads rules
 unfolding step change
 exact-reads w setup host room sixteen kind code a =
-    let read : requestOf (setupOf setup) ≡ ReadConfigData = is-read (setupOf setup) kind code in
+    let read : requestOf (setupOf setup) ≡ Known ReadConfigData = is-read (setupOf setup) kind code in
     let store : List ℕ = storeOf (word 2 setup) w in
     let fits : word 4 setup + word 6 setup ≤ length store = read-inside w setup (length host) room sixteen a read in
     rw (a, read) (

@@ -12,13 +12,13 @@ use Rattle.rules.specs.declared.Direction.the-variants.{Out, In}
 use Rattle.rules.specs.declared.Phase.{Phase}
 use Rattle.rules.specs.declared.Phase.the-variants.{Awaiting, Busy, StatusWaiting, Stopped}
 use Rattle.rules.specs.declared.Request.{Request}
-use Rattle.rules.specs.declared.Request.the-variants.{SetConfiguration, GetConfiguration, ClearFeature, GetStatus, GetMaxLun, MassStorageReset, LoadConfigData, ReadConfigData, SoftReset, BogusRead, Unknown}
+use Rattle.rules.specs.declared.Request.the-variants.{SetConfiguration, GetConfiguration, ClearFeature, GetStatus, GetMaxLun, MassStorageReset, LoadConfigData, ReadConfigData, SoftReset, BogusRead}
 use Rattle.rules.specs.declared.Setup.{Setup}
 use Rattle.rules.specs.Words.{long}
 use Rattle.rules.specs.Held.{World, powered, bulkOut, isStopped}
 use Rattle.rules.specs.Changes.{made}
 use Rattle.rules.specs.Stopping.{clears, clearsPipe}
-use Rattle.rules.specs.Requests.{setupOf, requestOf, changeBy}
+use Rattle.rules.specs.Requests.{Named, Unknown, Known, setupOf, requestOf, changeBy}
 use Rattle.rules.specs.Packets.{commandOf, signatureOf, recognises, commandTaken}
 use Rattle.rules.specs.Reports.{mismatch, residueOf, reportTaken}
 use Rattle.rules.specs.Step.{Event, BusReset, Control, Packet, Report, StatusRequest, answer, done, damaged, changeDone, change, step, rules, after}
@@ -50,18 +50,18 @@ report direction failed amount (Stopped reset) n = tt
 clear : (p : Phase) (d : Direction) (other : Bool) → Sized (clearsPipe p d other)
 clear p d other = either (clears p) _ Nothing (either (isStopped p && not other) Ends (Clears d) tt tt) tt
 
-request : (r : Request) (s : Setup) (b : Bridge) → Sized (changeBy r s b)
-request SetConfiguration s b = tt
-request GetConfiguration s b = tt
-request ClearFeature s b =
+request : (r : Named) (s : Setup) (b : Bridge) → Sized (changeBy r s b)
+request (Known SetConfiguration) s b = tt
+request (Known GetConfiguration) s b = tt
+request (Known ClearFeature) s b =
     either (eqb (s .index) bulkOut) _ _ (clear (b .phase) Out (b .halts .inward)) (clear (b .phase) In (b .halts .outward))
-request GetStatus s b = tt
-request GetMaxLun s b = tt
-request MassStorageReset s b = either (isStopped (b .phase)) Notes Awaits tt tt
-request LoadConfigData s b = tt
-request ReadConfigData s b = tt
-request SoftReset s b = either (isStopped (b .phase)) Nothing Awaits tt tt
-request BogusRead s b = tt
+request (Known GetStatus) s b = tt
+request (Known GetMaxLun) s b = tt
+request (Known MassStorageReset) s b = either (isStopped (b .phase)) Notes Awaits tt tt
+request (Known LoadConfigData) s b = tt
+request (Known ReadConfigData) s b = tt
+request (Known SoftReset) s b = either (isStopped (b .phase)) Nothing Awaits tt tt
+request (Known BogusRead) s b = tt
 request Unknown s b = tt
 
 taken : (w : World) (e : Event) → Numbers (w .bridge .phase) → OfBytes e → Sized (changeDone w e)

@@ -10,39 +10,39 @@ use Rattle.rules.specs.declared.Bridge.{Bridge}
 use Rattle.rules.specs.declared.Change.the-variants.{Nothing}
 use Rattle.rules.specs.declared.Phase.the-variants.{Stopped}
 use Rattle.rules.specs.declared.Request.{Request}
-use Rattle.rules.specs.declared.Request.the-variants.{SetConfiguration, GetConfiguration, ClearFeature, GetStatus, GetMaxLun, MassStorageReset, LoadConfigData, ReadConfigData, SoftReset, BogusRead, Unknown}
+use Rattle.rules.specs.declared.Request.the-variants.{SetConfiguration, GetConfiguration, ClearFeature, GetStatus, GetMaxLun, MassStorageReset, LoadConfigData, ReadConfigData, SoftReset, BogusRead}
 use Rattle.rules.specs.declared.Setup.{Setup}
 use Rattle.rules.specs.Held.{world, sizeOf, inPhase, halted}
 use Rattle.rules.specs.Changes.{made}
-use Rattle.rules.specs.Requests.{setupOf, requestOf, isA, hasPlace, replyTo, changeBy}
+use Rattle.rules.specs.Requests.{Named, Unknown, Known, isUnknown, setupOf, requestOf, isA, hasPlace, replyTo, changeBy}
 use Rattle.rules.specs.Answers.{requestAnswer}
 use Rattle.rules.specs.Step.{change, step, rules, done}
 use Rattle.rules.specs.Demands.Boundary.{VendorInStop}
 use Rattle.rules.proofs.Checks.{request-undamaged, request-has}
 
 -- a vendor request, or none
-abbrev vendor : Request → Bool
-vendor q = hasPlace q || isA SoftReset q || isA BogusRead q || isA Unknown q
+abbrev vendor : Named → Bool
+vendor q = hasPlace q || isA SoftReset q || isA BogusRead q || isUnknown q
 
 -- a vendor request, accepted or not, of a stopped bridge and of the same bridge had it not stopped
 module _ (b : Bridge) (bytes memory : List ℕ) (reset out back : Bool) (s : Setup) where
   abbrev stop : Bridge
   stop = inPhase (Stopped reset) (halted out back b)
 
-  alike : (q : Request) (t : Bool) → vendor q ≡ true
+  alike : (q : Named) (t : Bool) → vendor q ≡ true
       → (_≡_ {A = List ℕ} (cond t (replyTo q s (world stop bytes memory)) []) (cond t (replyTo q s (world b bytes memory)) []))
       × (made (cond t (changeBy q s stop) Nothing) stop ≡ stop)
   alike q false v = (refl, refl)
-  alike SetConfiguration true v = absurd (false≢true v)
-  alike GetConfiguration true v = absurd (false≢true v)
-  alike ClearFeature true v = absurd (false≢true v)
-  alike GetStatus true v = absurd (false≢true v)
-  alike GetMaxLun true v = absurd (false≢true v)
-  alike MassStorageReset true v = absurd (false≢true v)
-  alike LoadConfigData true v = (refl, refl)
-  alike ReadConfigData true v = (refl, refl)
-  alike SoftReset true v = (refl, refl)
-  alike BogusRead true v = (refl, refl)
+  alike (Known SetConfiguration) true v = absurd (false≢true v)
+  alike (Known GetConfiguration) true v = absurd (false≢true v)
+  alike (Known ClearFeature) true v = absurd (false≢true v)
+  alike (Known GetStatus) true v = absurd (false≢true v)
+  alike (Known GetMaxLun) true v = absurd (false≢true v)
+  alike (Known MassStorageReset) true v = absurd (false≢true v)
+  alike (Known LoadConfigData) true v = (refl, refl)
+  alike (Known ReadConfigData) true v = (refl, refl)
+  alike (Known SoftReset) true v = (refl, refl)
+  alike (Known BogusRead) true v = (refl, refl)
   alike Unknown true v = (refl, refl)
 
 pub vendor-in-stop : VendorInStop rules

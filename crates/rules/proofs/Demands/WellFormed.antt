@@ -16,7 +16,7 @@ use Rattle.rules.specs.declared.Halts.{Halts}
 use Rattle.rules.specs.declared.Phase.{Phase}
 use Rattle.rules.specs.declared.Phase.the-variants.{Awaiting, Busy, StatusWaiting, Stopped}
 use Rattle.rules.specs.declared.Request.{Request}
-use Rattle.rules.specs.declared.Request.the-variants.{SetConfiguration, GetConfiguration, ClearFeature, GetStatus, GetMaxLun, MassStorageReset, LoadConfigData, ReadConfigData, SoftReset, BogusRead, Unknown}
+use Rattle.rules.specs.declared.Request.the-variants.{SetConfiguration, GetConfiguration, ClearFeature, GetStatus, GetMaxLun, MassStorageReset, LoadConfigData, ReadConfigData, SoftReset, BogusRead}
 use Rattle.rules.specs.declared.Setup.{Setup}
 use Rattle.rules.specs.Words.{over}
 use Rattle.rules.specs.Held.{World, world, powered, powerOnBytes, bulkOut, marks, inPhase, halting}
@@ -24,7 +24,7 @@ use Rattle.rules.specs.Changes.{made}
 use Rattle.rules.specs.Packets.{commandOf, directionOf, signatureOf, recognises, commandTaken}
 use Rattle.rules.specs.Reports.{malformed, mismatch, statusOf, residueOf, haltsPipe, reportTaken}
 use Rattle.rules.specs.Stopping.{clearsPipe, massStorageReset, softReset}
-use Rattle.rules.specs.Requests.{setupOf, requestOf, inMemory, changeBy, bytesAfter, memoryAfter}
+use Rattle.rules.specs.Requests.{Named, Unknown, Known, setupOf, requestOf, inMemory, changeBy, bytesAfter, memoryAfter}
 use Rattle.rules.specs.Answers.{reportChecks, reportAnswer}
 use Rattle.rules.specs.Step.{Event, BusReset, Control, Packet, Report, StatusRequest, change, step, rules, after, answer, done, damaged, changeDone, bytesDone, memoryDone}
 use Rattle.rules.specs.Demands.WellFormed.{Bytes, Proper, ProperAll, sound, WellFormed, StaysWellFormed}
@@ -166,19 +166,19 @@ module _ (w : World) (g : WellFormed w) where
         phase = g .phase;
       }
 
-  request : (r : Request) (s : Setup) (host : List ℕ) → Bytes host
+  request : (r : Named) (s : Setup) (host : List ℕ) → Bytes host
       → WellFormed (world (made (changeBy r s b) b) (bytesAfter r s host (w .bytes)) (memoryAfter r s host (w .memory)))
-  request SetConfiguration s host h = keeps _ refl
-  request GetConfiguration s host h = g
-  request ClearFeature s host h = keeps _ (clear (eqb (s .index) bulkOut))
-  request GetStatus s host h = g
-  request GetMaxLun s host h = g
-  request MassStorageReset s host h =
+  request (Known SetConfiguration) s host h = keeps _ refl
+  request (Known GetConfiguration) s host h = g
+  request (Known ClearFeature) s host h = keeps _ (clear (eqb (s .index) bulkOut))
+  request (Known GetStatus) s host h = g
+  request (Known GetMaxLun) s host h = g
+  request (Known MassStorageReset) s host h =
       keeps _ (sound-reset (b .configured) (b .phase) (b .halts .outward) (b .halts .inward) (g .phase))
-  request LoadConfigData s host h = write (s .index) host h (inMemory (s .value))
-  request ReadConfigData s host h = g
-  request SoftReset s host h = keeps _ (sound-soft (b .configured) (b .phase) (b .halts .outward) (b .halts .inward) (g .phase))
-  request BogusRead s host h = g
+  request (Known LoadConfigData) s host h = write (s .index) host h (inMemory (s .value))
+  request (Known ReadConfigData) s host h = g
+  request (Known SoftReset) s host h = keeps _ (sound-soft (b .configured) (b .phase) (b .halts .outward) (b .halts .inward) (g .phase))
+  request (Known BogusRead) s host h = g
   request Unknown s host h = g
 
   -- an event that is answered 0

@@ -4,11 +4,11 @@ use mathlib.Core.Bool.{Bool, true, false, cond, not, _&&_, _||_}
 use mathlib.Core.List.{List, [], _∷_, _++_}
 use Prim.Native.Nat.{ℕ, _/_, _%_}
 use Rattle.rules.specs.declared.Request.{Request}
-use Rattle.rules.specs.declared.Request.the-variants.{SetConfiguration, ClearFeature, MassStorageReset, LoadConfigData, Unknown}
+use Rattle.rules.specs.declared.Request.the-variants.{SetConfiguration, ClearFeature, MassStorageReset, LoadConfigData}
 use Rattle.rules.specs.declared.Phase.the-variants.{Awaiting, Stopped}
 use Rattle.rules.specs.Words.{byte}
 use Rattle.rules.specs.Held.{World, world, bulkOut, bulkIn, inPhase, halted}
-use Rattle.rules.specs.Requests.{setupOf, requestOf, isA}
+use Rattle.rules.specs.Requests.{Named, Unknown, setupOf, requestOf, isA}
 use Rattle.rules.specs.Demands.Refusals.{damages as isDamage}
 use Rattle.rules.specs.Step.{Event, BusReset, Control, Packet, Report, StatusRequest, Outcome, Machine, after, reached, done}
 
@@ -20,7 +20,7 @@ pub record Ready (w : World) : Type 0 where
   pub inRuns : w .bridge .halts .inward ≡ false
 
 -- the request that an event makes; an event that is no control request makes none
-abbrev pub requestIn : Event → Request
+abbrev pub requestIn : Event → Named
 requestIn BusReset = Unknown
 requestIn (Control setup host room) = requestOf (setupOf setup)
 requestIn (Packet p room) = Unknown
