@@ -2,7 +2,7 @@
 ghost use mathlib.Core.Path.{_≡_};
 ghost use lib.ListN.{set};
 ghost use Rattle.rules.specs.Words.{long, byte};
-ghost use Rattle.rules.specs.Packets.{inward, signatureOf};
+ghost use Rattle.rules.specs.Packets.{signatureOf};
 ghost use Rattle.image.specs.Image.{bytesOf, isMarked, directionFrom, phaseFrom, decode, powered, numbered, phased, marked, calm, put};
 use rules::Bridge;
 use rules::Change;

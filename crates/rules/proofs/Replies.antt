@@ -11,7 +11,7 @@ use borrow.Author.Tests.{eqb-true, leb-true, ltb-false, not-false}
 use Rattle.rules.specs.declared.Request.the-variants.{SetConfiguration, GetConfiguration, ClearFeature, GetStatus, GetMaxLun, MassStorageReset, LoadConfigData, ReadConfigData, SoftReset, BogusRead}
 use Rattle.rules.specs.declared.Setup.{Setup}
 use Rattle.rules.specs.Held.{World, sizeOf}
-use Rattle.rules.specs.Requests.{Named, Unknown, Known, isUnknown, Row, table, fits, lookup, setupOf, requestOf, isA, inMemory, address, returned, storeOf, replyTo, replies}
+use Rattle.rules.specs.Requests.{Named, Unknown, Known, isUnknown, Row, table, fits, lookup, setupOf, requestOf, inMemory, address, returned, storeOf, replyTo, replies}
 use Rattle.rules.specs.Answers.{requestAnswer}
 use Rattle.rules.proofs.Checks.{request-passed, accepted-write}
 

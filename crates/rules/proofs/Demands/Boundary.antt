@@ -10,7 +10,6 @@ use Rattle.rules.specs.declared.Bridge.{Bridge}
 use Rattle.rules.specs.declared.Change.the-variants.{Nothing, Stops}
 use Rattle.rules.specs.declared.Direction.the-variants.{Out, In}
 use Rattle.rules.specs.declared.Phase.the-variants.{Awaiting, Stopped}
-use Rattle.rules.specs.declared.Request.{Request}
 use Rattle.rules.specs.declared.Request.the-variants.{SetConfiguration, GetConfiguration, ClearFeature, GetStatus, GetMaxLun, MassStorageReset, LoadConfigData, ReadConfigData, SoftReset, BogusRead}
 use Rattle.rules.specs.declared.Setup.{Setup}
 use Rattle.rules.specs.Held.{World, world, powered, sizeOf, bulkOut, bulkIn, configuring, inPhase, halted}

@@ -1,6 +1,5 @@
 -- The bridges that document 01 says are shut out, each as a machine of its own, and the demand that each breaks.
-use mathlib.Core.Path.{_≡_}
-use mathlib.Core.Bool.{Bool, true, false, cond, _&&_, _||_}
+use mathlib.Core.Bool.{Bool, false, cond, _||_}
 use mathlib.Core.List.{List, [], _∷_}
 use Prim.Native.Nat.{ℕ}
 use lib.ListN.{length, replicate}
@@ -8,7 +7,7 @@ use lib.Dec.{ltb}
 use Rattle.rules.specs.declared.Phase.the-variants.{StatusWaiting}
 use Rattle.rules.specs.Held.{World, world, powered, inPhase, isStopped}
 use Rattle.rules.specs.Packets.{commandOf}
-use Rattle.rules.specs.Step.{Event, BusReset, Control, Packet, Report, StatusRequest, Outcome, Machine, damaged, done, given, step}
+use Rattle.rules.specs.Step.{Event, BusReset, Control, Packet, Report, StatusRequest, Outcome, Machine, damaged, given, step}
 use Rattle.rules.specs.Demands.Examples.{Examples}
 use Rattle.rules.specs.Demands.Requests.{ExactWrites, ExactReads}
 use Rattle.rules.specs.Demands.Operations.{ExactOperations}
