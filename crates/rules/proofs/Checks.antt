@@ -1,6 +1,7 @@
 -- Laws of the two tables that every event is read by: an ordered list of checks, and the request table.
 use mathlib.Core.Path.{_≡_, refl}
-use mathlib.Core.Bool.{Bool, true, false, cond, not, _&&_, _||_, false≢true, and-eq-true-iff}
+use mathlib.Core.Logic.{_⊎_, inl, inr}
+use mathlib.Core.Bool.{Bool, true, false, cond, not, _&&_, _||_, true≢false, false≢true, and-eq-true-iff}
 use mathlib.Core.List.{List, [], _∷_, _++_}
 use Prim.Native.Nat.{ℕ}
 use lib.Dec.{eqb, ltb}
@@ -50,6 +51,22 @@ passed (c ∷ cs) n h = go (c .applies) refl (eqb (c .number) 0) refl n h (passe
     go false e true z n h ih = absurd (false≢true n)
     go false e false z n h ih = (e, ih n h)
 
+-- where the answer is n, no check before the first numbered n applies; and that one does, or the answer comes from those behind it
+abbrev pub Decides : ℕ → List Check → Type 0
+Decides n [] = 0 ≡ n
+Decides n (c ∷ cs) = cond (eqb (c .number) n) ((c .applies ≡ true) ⊎ (first cs ≡ n)) ((c .applies ≡ false) × Decides n cs)
+
+pub decides : (n : ℕ) (cs : List Check) → first cs ≡ n → Decides n cs
+decides n [] h = h
+decides n (c ∷ cs) h = go (eqb (c .number) n) refl (c .applies) refl h (decides n cs)
+  where
+    go : (z : Bool) → eqb (c .number) n ≡ z → (t : Bool) → c .applies ≡ t → cond t (c .number) (first cs) ≡ n → (first cs ≡ n → Decides n cs)
+        → cond z ((c .applies ≡ true) ⊎ (first cs ≡ n)) ((c .applies ≡ false) × Decides n cs)
+    go true e true f h ih = inl f
+    go true e false f h ih = inr h
+    go false e true f h ih = absurd (eqb-false _ n e h)
+    go false e false f h ih = (f, ih h)
+
 -- checks in two parts: where none of the first applies, the second decides
 pub first-append : (cs ds : List Check) → numbered cs ≡ true → first (cs ++ ds) ≡ cond (eqb (first cs) 0) (first ds) (first cs)
 first-append [] ds n = refl
@@ -70,6 +87,22 @@ request-undamaged configured m setup host room =
     not-true _
     (answer-has (λ n. not (damaged n)) (requestChecks configured m (length setup) (setupOf setup) (requestOf (setupOf setup)) host room) refl)
 
+-- the fields of a setup that fits a row
+pub record Fits (r : Row) (s : Setup) : Type 0 where
+  pub kind : s .kind ≡ r .kind
+  pub code : s .code ≡ r .code
+  pub value : (r .value) (s .value) ≡ true
+  pub index : (r .index) (s .index) ≡ true
+  pub length : (r .length) (s .length) ≡ true
+
+fitted : (r : Row) (s : Setup) → fits r s ≡ true → Fits r s
+fitted r s f =
+    let a = and-eq-true-iff _ ((r .length) (s .length)) .0 f in
+    let b = and-eq-true-iff _ ((r .index) (s .index)) .0 (a .0) in
+    let c = and-eq-true-iff _ ((r .value) (s .value)) .0 (b .0) in
+    let d = and-eq-true-iff (eqb (s .kind) (r .kind)) (eqb (s .code) (r .code)) .0 (c .0) in
+    record { kind = eqb-true _ _ (d .0); code = eqb-true _ _ (d .1); value = c .1; index = b .1; length = a .1 }
+
 -- Unknown, and the request of every row whose kind and code pass a test, have a property
 abbrev pub allRows : (ℕ → ℕ → Bool) → (Named → Bool) → List Row → Bool
 allRows test has [] = has Unknown
@@ -78,14 +111,7 @@ allRows test has (r ∷ rs) = (not (test (r .kind) (r .code)) || has (Known (r .
 -- a row that a setup fits passes every test of kind and code that the setup passes
 row-passes : (test : ℕ → ℕ → Bool) (r : Row) (s : Setup) → fits r s ≡ true → test (s .kind) (s .code) ≡ true
     → test (r .kind) (r .code) ≡ true
-row-passes test r s f h =
-    let e = both (eqb (s .kind) (r .kind)) (eqb (s .code) (r .code)) _ _ _ f in
-    rw (eqb-true (s .kind) _ (e .0), eqb-true (s .code) _ (e .1)) at h
-  where
-    both : (a b c d e : Bool) → (a && b && c && d && e) ≡ true → (a ≡ true) × (b ≡ true)
-    both true true c d e h = (refl, refl)
-    both true false c d e h = absurd (false≢true h)
-    both false b c d e h = absurd (false≢true h)
+row-passes test r s f h = rw (fitted r s f .kind, fitted r s f .code) at h
 
 lookup-has : (test : ℕ → ℕ → Bool) (has : Named → Bool) (rs : List Row) (s : Setup) → test (s .kind) (s .code) ≡ true
     → allRows test has rs ≡ true → has (lookup rs s) ≡ true
@@ -99,6 +125,30 @@ pub request-has : (test : ℕ → ℕ → Bool) (has : Named → Bool) (s : Setu
     → allRows test has table ≡ true → has (requestOf s) ≡ true
 unfolding requestOf
 request-has test has s = lookup-has test has table s
+
+-- what every row that a setup fits names has a property
+abbrev pub EachRow : (Request → Type 0) → Setup → List Row → Type 0
+EachRow P s [] = Unit {0}
+EachRow P s (r ∷ rs) = (Fits r s → P (r .names)) × EachRow P s rs
+
+-- .. a row at a time
+infixr 20 _also_
+pub _also_ : {A B : Type 0} → A → B → A × B
+x also y = (x, y)
+
+-- so has the request that it makes, Unknown aside
+lookup-each : (P : Request → Type 0) (s : Setup) (rs : List Row) → EachRow P s rs → isA Unknown (lookup rs s) ≡ false → P (lookup rs s)
+lookup-each P s [] each u = absurd (true≢false u)
+lookup-each P s (r ∷ rs) each u = go (fits r s) refl u (lookup-each P s rs (each .1))
+  where
+    go : (t : Bool) → fits r s ≡ t → isA Unknown (cond t (r .names) (lookup rs s)) ≡ false → (isA Unknown (lookup rs s) ≡ false → P (lookup rs s))
+        → P (cond t (r .names) (lookup rs s))
+    go true e u ih = each .0 (fitted r s e)
+    go false e u ih = ih u
+
+pub request-each : (P : Request → Type 0) (s : Setup) → EachRow P s table → isA Unknown (requestOf s) ≡ false → P (requestOf s)
+unfolding requestOf
+request-each P s each u = lookup-each P s table each u
 
 -- ---- what an accepted request has passed
 

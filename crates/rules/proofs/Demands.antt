@@ -9,3 +9,6 @@ pub mod WellFormed
 pub mod Sizes
 pub mod Examples
 pub mod ShutOut
+pub mod Makers
+pub mod Made
+pub mod Asked

@@ -1,77 +1,38 @@
 -- An accepted request's reply is wLength bytes, so there is room for it; and a read or a write lies in its place.
 use mathlib.Core.Path.{_≡_, refl}
-use mathlib.Core.Bool.{Bool, true, false, cond, _&&_, true≢false, false≢true, and-eq-true-iff}
-use mathlib.Core.List.{List, [], _∷_}
+use mathlib.Core.Bool.{Bool, true, false, cond, _&&_, and-eq-true-iff}
+use mathlib.Core.List.{List}
 use Prim.Native.Nat.{ℕ, _+_, _≤_}
 use native.Mathlib.Omega.{arith}
-use lib.Dec.{eqb, leb, ltb}
+use lib.Dec.{leb, ltb}
 use lib.ListN.{length, drop, length-drop, length-replicate}
 use lib.Seq.{length-take-le}
 use borrow.Author.Tests.{eqb-true, leb-true, ltb-false, not-false}
-use Rattle.rules.specs.declared.Request.the-variants.{SetConfiguration, GetConfiguration, ClearFeature, GetStatus, GetMaxLun, MassStorageReset, LoadConfigData, ReadConfigData, SoftReset, BogusRead}
+use Rattle.rules.specs.declared.Request.{Request}
+use Rattle.rules.specs.declared.Request.the-variants.{SetConfiguration, GetConfiguration, ClearFeature, GetStatus, GetMaxLun, MassStorageReset, LoadConfigData, ReadConfigData, SoftReset, BogusRead, Unknown}
 use Rattle.rules.specs.declared.Setup.{Setup}
 use Rattle.rules.specs.Held.{World, sizeOf}
-use Rattle.rules.specs.Requests.{Named, Unknown, Known, isUnknown, Row, table, fits, lookup, setupOf, requestOf, inMemory, address, returned, storeOf, replyTo, replies}
+use Rattle.rules.specs.Requests.{table, setupOf, requestOf, isA, inMemory, address, returned, storeOf, replyTo, replies}
 use Rattle.rules.specs.Answers.{requestAnswer}
-use Rattle.rules.proofs.Checks.{request-passed, accepted-write}
-
--- every row that a setup fits names a request that replies what wLength says
-abbrev Rows : Setup → List Row → Type 0
-Rows s [] = Unit {0}
-Rows s (r ∷ rs) = (s .kind ≡ r .kind → (r .length) (s .length) ≡ true → returned s ≡ replies (Known (r .names)) s) × Rows s rs
-
-rows : (s : Setup) → Rows s table
-rows s = (
-  λ k n. rw k,
-  (
-    λ k n. rw k (eqb-true _ _ n),
-    (
-      λ k n. rw k,
-      (
-        λ k n. rw k (eqb-true _ _ n),
-        (
-          λ k n. rw k (eqb-true _ _ n),
-          (
-            λ k n. rw k,
-            (
-              λ k n. rw k,
-              (
-                λ k n. rw k,
-                (
-                  λ k n. rw k,
-                  (
-                    λ k n. rw k,
-                    tt,
-                  ),
-                ),
-              ),
-            ),
-          ),
-        ),
-      ),
-    ),
-  ),
-)
+use Rattle.rules.proofs.Checks.{EachRow, _also_, request-each, request-passed, accepted-write}
 
 -- the request that a setup makes, Unknown aside, replies what wLength says
-lookup-replies : (rs : List Row) (s : Setup) → Rows s rs → isUnknown (lookup rs s) ≡ false → returned s ≡ replies (lookup rs s) s
-lookup-replies [] s h u = absurd (true≢false u)
-lookup-replies (r ∷ rs) s h u = go (fits r s) refl u (lookup-replies rs s (h .1))
+request-replies : (s : Setup) → isA Unknown (requestOf s) ≡ false → returned s ≡ replies (requestOf s) s
+request-replies s u = request-each (λ r. returned s ≡ replies r s) s rows u
   where
-    ends : (a b c d e : Bool) → (a && b && c && d && e) ≡ true → (a ≡ true) × (e ≡ true)
-    ends true b c d e k = (refl, and-eq-true-iff (b && c && d) e .0 k .1)
-    ends false b c d e k = absurd (false≢true k)
-
-    go : (t : Bool) → fits r s ≡ t → isUnknown (cond t (Known (r .names)) (lookup rs s)) ≡ false
-        → (isUnknown (lookup rs s) ≡ false → returned s ≡ replies (lookup rs s) s) → returned s ≡ replies (cond t (Known (r .names)) (lookup rs s)) s
-    go true e u ih =
-        let k = ends (eqb (s .kind) (r .kind)) (eqb (s .code) (r .code)) ((r .value) (s .value)) ((r .index) (s .index)) ((r .length) (s .length)) e in
-        h .0 (eqb-true _ _ (k .0)) (k .1)
-    go false e u ih = ih u
-
-request-replies : (s : Setup) → isUnknown (requestOf s) ≡ false → returned s ≡ replies (requestOf s) s
-unfolding requestOf
-request-replies s u = lookup-replies table s (rows s) u
+    rows : EachRow (λ r. returned s ≡ replies r s) s table
+    rows =
+        (λ h. rw (h .kind))
+        also (λ h. rw (h .kind) (eqb-true _ _ (h .length)))
+        also (λ h. rw (h .kind))
+        also (λ h. rw (h .kind) (eqb-true _ _ (h .length)))
+        also (λ h. rw (h .kind) (eqb-true _ _ (h .length)))
+        also (λ h. rw (h .kind))
+        also (λ h. rw (h .kind))
+        also (λ h. rw (h .kind))
+        also (λ h. rw (h .kind))
+        also (λ h. rw (h .kind))
+        also tt
 
 -- an address that is right lies in its place
 inside : (writes : Bool) (w : World) (place start n : ℕ) → length (w .bytes) ≡ 16 → address writes (sizeOf (w .memory)) place start n ≡ true
@@ -95,30 +56,30 @@ module _ (w : World) (setup : List ℕ) (host room : ℕ) (sixteen : length (w .
   abbrev s : Setup
   s = setupOf setup
 
-  pub write-inside : requestOf s ≡ Known LoadConfigData → (s .index + s .length ≤ length (storeOf (s .value) w)) × (host ≡ s .length)
+  pub write-inside : requestOf s ≡ LoadConfigData → (s .index + s .length ≤ length (storeOf (s .value) w)) × (host ≡ s .length)
   write-inside e =
       let p = accepted-write (w .bridge .configured) (sizeOf (w .memory)) setup host room e accepted in
       (inside true w (s .value) (s .index) (s .length) sixteen (p .1), p .2)
 
-  pub read-inside : requestOf s ≡ Known ReadConfigData → s .index + s .length ≤ length (storeOf (s .value) w)
+  pub read-inside : requestOf s ≡ ReadConfigData → s .index + s .length ≤ length (storeOf (s .value) w)
   read-inside e =
       let p = request-passed (w .bridge .configured) (sizeOf (w .memory)) setup host room accepted in
       inside false w (s .value) (s .index) (s .length) sixteen
       (not-false (address false (sizeOf (w .memory)) (s .value) (s .index) (s .length)) (rw e at (p .1 .1 .1 .1 .1 .0)))
 
-  reply-length : (r : Named) → (r ≡ Known ReadConfigData → s .index + s .length ≤ length (storeOf (s .value) w)) → length (replyTo r s w) ≡ replies r s
-  reply-length (Known SetConfiguration) h = refl
-  reply-length (Known GetConfiguration) h = refl
-  reply-length (Known ClearFeature) h = refl
-  reply-length (Known GetStatus) h = refl
-  reply-length (Known GetMaxLun) h = refl
-  reply-length (Known MassStorageReset) h = refl
-  reply-length (Known LoadConfigData) h = refl
-  reply-length (Known ReadConfigData) h =
+  reply-length : (r : Request) → (r ≡ ReadConfigData → s .index + s .length ≤ length (storeOf (s .value) w)) → length (replyTo r s w) ≡ replies r s
+  reply-length SetConfiguration h = refl
+  reply-length GetConfiguration h = refl
+  reply-length ClearFeature h = refl
+  reply-length GetStatus h = refl
+  reply-length GetMaxLun h = refl
+  reply-length MassStorageReset h = refl
+  reply-length LoadConfigData h = refl
+  reply-length ReadConfigData h =
       let k : s .index + s .length ≤ length (storeOf (s .value) w) = h refl in
       length-take-le (s .length) (drop (s .index) (storeOf (s .value) w)) (rw length-drop (omega arith))
-  reply-length (Known SoftReset) h = refl
-  reply-length (Known BogusRead) h = length-replicate (s .length) 0
+  reply-length SoftReset h = refl
+  reply-length BogusRead h = length-replicate (s .length) 0
   reply-length Unknown h = refl
 
   pub reply-count : length (replyTo (requestOf s) s w) ≡ replies (requestOf s) s

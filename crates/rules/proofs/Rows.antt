@@ -1,12 +1,12 @@
--- Laws of a row with another over it: how long it is, where all of it fits at the front, and how a loop puts it there.
-use mathlib.Core.Path.{_≡_, refl, ap}
+-- Laws of a row with another over it: how long it is, where all of it fits at the front, and how a loop puts it there; and of a row byte by byte.
+use mathlib.Core.Path.{_≡_, refl, ap, _∙_}
 use mathlib.Core.List.{List, [], _∷_}
-use Prim.Native.Nat.{ℕ, zero, suc, _-_, _≤_, min}
+use Prim.Native.Nat.{ℕ, zero, suc, _+_, _-_, _≤_, min}
 use native.Mathlib.Nat.{zero-add, suc-add}
 use native.Mathlib.Omega.{arith}
-use lib.ListN.{length}
-use lib.Seq.{paste, paste-zero}
-use Rattle.rules.specs.Words.{laid, over}
+use lib.ListN.{length, drop}
+use lib.Seq.{drop-cons, paste, paste-zero}
+use Rattle.rules.specs.Words.{byte, laid, over}
 
 pub over-length : (row : List ℕ) (at : ℕ) (xs : List ℕ) → length (over row at xs) ≡ length row
 unfolding over
@@ -33,3 +33,13 @@ over-pastes (r ∷ row) zero (x ∷ xs) n e =
     rw (z, zero-add) (ap (λ (l : List ℕ). x ∷ l) (rw zero-add at (over-pastes row zero xs (n - 1) (omega arith))))
 over-pastes [] (suc at) xs n e = let z : n ≡ 0 = omega arith in rw z (paste-zero [] (suc at) xs)
 over-pastes (r ∷ row) (suc at) xs n e = rw suc-add (ap (λ (l : List ℕ). r ∷ l) (over-pastes row at xs n (omega arith)))
+
+-- n bytes from k on, and the rest
+abbrev pub parts : ℕ → ℕ → List ℕ → List ℕ
+parts k zero p = drop k p
+parts k (suc n) p = byte k p ∷ parts (suc k) n p
+
+pub in-parts : (k n : ℕ) (p : List ℕ) → k + n ≤ length p → drop k p ≡ parts k n p
+in-parts k zero p h = refl
+in-parts k (suc n) p h =
+    drop-cons p k 0 (omega arith) ∙ ap (λ (l : List ℕ). byte k p ∷ l) (in-parts (suc k) n p (omega arith))

@@ -8,3 +8,4 @@ pub mod WellFormed
 pub mod Sizes
 pub mod Examples
 pub mod ShutOut
+pub mod Makers
