@@ -12,3 +12,6 @@ pub mod ShutOut
 pub mod Makers
 pub mod Made
 pub mod Asked
+pub mod Coherence
+pub mod Stored
+pub mod Statuses

@@ -35,7 +35,7 @@ request-replies s u = request-each (λ r. returned s ≡ replies r s) s rows u
         also tt
 
 -- an address that is right lies in its place
-inside : (writes : Bool) (w : World) (place start n : ℕ) → length (w .bytes) ≡ 16 → address writes (sizeOf (w .memory)) place start n ≡ true
+pub inside : (writes : Bool) (w : World) (place start n : ℕ) → length (w .bytes) ≡ 16 → address writes (sizeOf (w .memory)) place start n ≡ true
     → start + n ≤ length (storeOf place w)
 unfolding address
 inside writes w place start n sixteen a = go (inMemory place) a

@@ -9,3 +9,4 @@ pub mod Sizes
 pub mod Examples
 pub mod ShutOut
 pub mod Makers
+pub mod Coherence

@@ -47,7 +47,7 @@ module _ (l : ℕ) (host : Direction) (direction amount : ℕ) (P : Case → Typ
 -- ---- what a report with legal numbers says, and how L compares with its amount
 
 -- it is not malformed
-legal : (direction failed amount : ℕ) → direction ≤ 2 → failed ≤ 1 → (direction ≡ 0 → amount ≡ 0) → malformed direction failed amount ≡ false
+pub legal : (direction failed amount : ℕ) → direction ≤ 2 → failed ≤ 1 → (direction ≡ 0 → amount ≡ 0) → malformed direction failed amount ≡ false
 unfolding malformed
 legal direction failed amount d f a = rw (le-ltb 2 direction, le-ltb 1 failed) (go (eqb direction 0) refl)
   where
@@ -130,7 +130,7 @@ module _ (tag l failed direction amount : ℕ) (b next : Bridge) where
   settle Out x n p (outward d q m) (fewer r s t) = rw (n, m, r, s, t) (refl, rw (n, d, q, p, r, t) at x)
 
 -- a report that is not malformed is answered 0, and finishes the command
-report-taken : (w : World) (host : Direction) (tag l : ℕ) (direction failed amount : ℕ) → w .bridge .configured ≡ true
+pub report-taken : (w : World) (host : Direction) (tag l : ℕ) (direction failed amount : ℕ) → w .bridge .configured ≡ true
     → w .bridge .phase ≡ Busy host tag l → malformed direction failed amount ≡ false
     → (step w (Report direction failed amount) .answer ≡ 0)
     × (step w (Report direction failed amount) .next .bridge

@@ -151,7 +151,7 @@ eight-made b h =
     sums n q r s a b c d e f g h i j k l = omega arith
 
 -- what a recognised block has
-recognised-has : (signature l : ℕ) (d : Direction) (block : List ℕ) (size : ℕ) → recognised signature block size l d ≡ true
+pub recognised-has : (signature l : ℕ) (d : Direction) (block : List ℕ) (size : ℕ) → recognised signature block size l d ≡ true
     → (size ≡ 16) × (byte 0 block ≡ signature) × (byte 1 block ≡ 0x24) × (byte 13 block ≡ 0) × (byte 14 block ≡ 0) × (byte 15 block ≡ 0)
     × (bit 0 (byte 2 block) ≡ true → readable (byte 2 block) l d ≡ true)
 unfolding recognised

@@ -11,8 +11,9 @@ use lib.Dec.{eqb, ltb}
 use borrow.Author.Tests.{eqb-true, eqb-false, eq-eqb, lt-ltb, le-ltb, le-leb}
 use Rattle.rules.specs.declared.Direction.{Direction}
 use Rattle.rules.specs.declared.Direction.the-variants.{Out, In}
+use Rattle.rules.specs.declared.Phase.the-variants.{Busy}
 use Rattle.rules.specs.Words.{byte, bit, bitOf, one}
-use Rattle.rules.specs.Held.{World, world}
+use Rattle.rules.specs.Held.{World, world, inPhase}
 use Rattle.rules.specs.Changes.{made}
 use Rattle.rules.specs.Packets.{commandTaken, inward, statusPacket, commandOf, blockOf, directionOf, signatureOf, valid, meaningful, recognised, recognises}
 use Rattle.rules.specs.Operations.{Operation, codes, action, selected, content, operationsOf}
@@ -24,11 +25,11 @@ use Rattle.rules.proofs.Demands.Operations.{counted}
 -- ---- read back
 
 -- the four bytes of a number join to it
-joins : (n : ℕ) → n % 256 + 256 * (n / 256 % 256) + 65536 * (n / 256 / 256 % 256 + 256 * (n / 256 / 256 / 256)) ≡ n
+pub joins : (n : ℕ) → n % 256 + 256 * (n / 256 % 256) + 65536 * (n / 256 / 256 % 256 + 256 * (n / 256 / 256 / 256)) ≡ n
 joins n = omega arith
 
 -- a made packet has its direction, with L = 0 none
-direction-made : (tag l : ℕ) (d : Direction) (block filling : List ℕ) → directionOf (commandOf (packet tag l d block filling)) ≡ cond (ltb 0 l) d Out
+pub direction-made : (tag l : ℕ) (d : Direction) (block filling : List ℕ) → directionOf (commandOf (packet tag l d block filling)) ≡ cond (ltb 0 l) d Out
 direction-made tag l d block filling = rw (joins l) (go d (ltb 0 l))
   where
     go : (d : Direction) (t : Bool) → cond (t && eqb (flagsFor d) 0x80) In Out ≡ cond t d Out
@@ -176,21 +177,27 @@ module _ (signature count l : ℕ) (d : Direction) (acts registers : ℕ → Boo
   block-recognises tag = rw (direction-made tag l d block [], joins l, append-nil) block-recognised
 
 -- an accepted packet changes the bridge as its block says
-packet-leaves : (w : World) (p : List ℕ) (room : ℕ) → step w (Packet p room) .answer ≡ 0
+pub packet-leaves : (w : World) (p : List ℕ) (room : ℕ) → step w (Packet p room) .answer ≡ 0
     → step w (Packet p room) .next ≡ world (made (commandTaken (recognises (signatureOf (w .bytes)) p) (commandOf p)) (w .bridge)) (w .bytes) (w .memory)
 unfolding step change
 packet-leaves w p room a = rw a
 
-pub made-is-begun : MadeIsBegun rules
-made-is-begun w tag l d acts registers count contents room free askable eights r =
+pub made-begins : (w : World) (tag l : ℕ) (d : Direction) (acts registers : ℕ → Bool) (count : ℕ) (contents : List ℕ) (room : ℕ)
+    → Free w → Askable acts l d → length contents ≡ 8 → 11 ≤ room
+    → step w (Packet (packet tag l d (passThrough (byte 0x04 (w .bytes)) acts registers count contents) []) room) .next
+    ≡ world (inPhase (Busy (cond (ltb 0 l) d Out) tag l) (w .bridge)) (w .bytes) (w .memory)
+made-begins w tag l d acts registers count contents room free askable eights r =
     let signature : ℕ = byte 0x04 (w .bytes) in
     let b : List ℕ = passThrough signature acts registers count contents in
     let fills : Fills b [] = block-fills signature count l d acts registers contents eights askable in
-    let p : List ℕ = packet tag l d b [] in
     rw (
-      packet-leaves w p room (made-is-accepted w tag l d b [] room free fills r),
+      packet-leaves w (packet tag l d b []) room (made-is-accepted w tag l d b [] room free fills r),
       block-recognises signature count l d acts registers contents eights askable tag,
       direction-made tag l d b [],
       joins tag,
       joins l,
     )
+
+pub made-is-begun : MadeIsBegun rules
+made-is-begun w tag l d acts registers count contents room free askable eights r =
+    ap (λ (w : World). w .bridge .phase) (made-begins w tag l d acts registers count contents room free askable eights r)

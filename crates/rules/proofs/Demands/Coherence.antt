@@ -1,0 +1,284 @@
+-- Configuration, pipes and replies hold together.
+use mathlib.Core.Path.{_≡_, refl, sym, ap, _∙_}
+use mathlib.Core.Bool.{Bool, true, false, cond, not, _&&_, _||_, true≢false, false≢true, and-false}
+use mathlib.Core.List.{List, [], _∷_}
+use Prim.Native.Nat.{ℕ, _≤_}
+use native.Mathlib.Omega.{arith}
+use lib.ListN.{length, drop}
+use lib.Dec.{eqb, ltb}
+use borrow.Author.Tests.{eqb-true, ltb-true, le-ltb, not-true}
+use Rattle.rules.specs.declared.Bridge.{Bridge}
+use Rattle.rules.specs.declared.Change.{Change}
+use Rattle.rules.specs.declared.Change.the-variants.{Nothing, Sets, Awaits, Begins, Finishes, Stops, Notes, Clears, Ends}
+use Rattle.rules.specs.declared.CommandPacket.{CommandPacket}
+use Rattle.rules.specs.declared.Direction.{Direction}
+use Rattle.rules.specs.declared.Direction.the-variants.{Out, In}
+use Rattle.rules.specs.declared.Phase.{Phase}
+use Rattle.rules.specs.declared.Phase.the-variants.{Awaiting, Busy, StatusWaiting, Stopped}
+use Rattle.rules.specs.declared.Request.the-variants.{LoadConfigData}
+use Rattle.rules.specs.declared.Setup.{Setup}
+use Rattle.rules.specs.Words.{one, Check, first}
+use Rattle.rules.specs.Held.{World, world, powered, configuration, sizeOf, bulkOut, isStopped}
+use Rattle.rules.specs.Changes.{made}
+use Rattle.rules.specs.Stopping.{clears, clearsPipe, clearFeature, massStorageReset, softReset}
+use Rattle.rules.specs.Requests.{table, address, setupOf, requestOf, isA, changeBy, bytesAfter, memoryAfter}
+use Rattle.rules.specs.Packets.{commandOf, signatureOf, recognises, commandTaken}
+use Rattle.rules.specs.Reports.{reportTaken}
+use Rattle.rules.specs.Answers.{requestAnswer, packetChecks, packetAnswer, statusChecks, statusAnswer}
+use Rattle.rules.specs.Step.{operationsFor, Event, BusReset, Control, Packet, Report, StatusRequest, answer, done, damaged, changeDone, change, step, rules, after}
+use Rattle.rules.specs.Demands.Refusals.{damages}
+use Rattle.rules.specs.Demands.Coherence.{asking, Replies, setsTo, configured, ConfigurationIsTold, BusResetIsPowerOn, ConfigurationRestarts, PowerOnIsRead, HaltsAreTold, DamageHalts, ClearClears, ResetsAgree, AskingChangesNothing, ZerosAreTold}
+use Rattle.rules.proofs.Demands.Refusals.{refusals}
+use Rattle.rules.proofs.Demands.Requests.{whole}
+use Rattle.rules.proofs.Checks.{allNumbers, answer-has, EachRow, _also_, request-each, request-passed, request-undamaged}
+
+-- ---- the configuration
+
+-- a change that does not set the configuration keeps it
+abbrev Unset : Change → Type 0
+Unset Nothing = Unit {0}
+Unset (Sets c) = ⊥
+Unset Awaits = Unit {0}
+Unset (Begins direction tag l) = Unit {0}
+Unset (Finishes direction halts status tag residue) = Unit {0}
+Unset Stops = Unit {0}
+Unset Notes = Unit {0}
+Unset (Clears direction) = Unit {0}
+Unset Ends = Unit {0}
+
+kept : (c : Change) (b : Bridge) → Unset c → made c b .configured ≡ b .configured
+kept Nothing b u = refl
+kept (Sets c) b u = absurd u
+kept Awaits b u = refl
+kept (Begins direction tag l) b u = refl
+kept (Finishes Out halts status tag residue) b u = refl
+kept (Finishes In halts status tag residue) b u = refl
+kept Stops b u = refl
+kept Notes b u = refl
+kept (Clears Out) b u = refl
+kept (Clears In) b u = refl
+kept Ends b u = refl
+
+either : (t : Bool) (c d : Change) → Unset c → Unset d → Unset (cond t c d)
+either true c d u v = u
+either false c d u v = v
+
+clear-unset : (p : Phase) (d : Direction) (other : Bool) → Unset (clearsPipe p d other)
+clear-unset p d other =
+    either (clears p) (cond (isStopped p && not other) Ends (Clears d)) Nothing (either (isStopped p && not other) Ends (Clears d) tt tt) tt
+
+feature-unset : (index : ℕ) (b : Bridge) → Unset (clearFeature index b)
+feature-unset index b =
+    either (eqb index bulkOut) (clearsPipe (b .phase) Out (b .halts .inward)) (clearsPipe (b .phase) In (b .halts .outward))
+    (clear-unset (b .phase) Out (b .halts .inward))
+    (clear-unset (b .phase) In (b .halts .outward))
+
+command-unset : (t : Bool) (c : CommandPacket) → Unset (commandTaken t c)
+command-unset true c = tt
+command-unset false c = tt
+
+report-unset : (direction failed amount : ℕ) (p : Phase) → Unset (reportTaken direction failed amount p)
+report-unset direction failed amount Awaiting = tt
+report-unset direction failed amount (Busy host tag l) = tt
+report-unset direction failed amount (StatusWaiting tag residue status) = tt
+report-unset direction failed amount (Stopped reset) = tt
+
+-- an accepted request leaves the configuration as it is, or as Set Configuration says
+request-sets : (setup : List ℕ) (b : Bridge)
+    → (let s = setupOf setup in
+    EachRow (λ r. configuration (made (changeBy r s b) b) ≡ setsTo (Control setup [] 0) (configuration b)) s table)
+request-sets setup b =
+    (λ h. rw (h .kind, h .code) (two-or-none (h .value)))
+    also (λ h. rw (h .kind))
+    also (λ h. rw (h .kind) (held (clearFeature (s .index) b) (feature-unset (s .index) b)))
+    also (λ h. rw (h .kind))
+    also (λ h. rw (h .kind))
+    also (λ h. rw (h .kind) (held (massStorageReset (b .phase)) (either (isStopped (b .phase)) Notes Awaits tt tt)))
+    also (λ h. rw (h .kind))
+    also (λ h. rw (h .kind))
+    also (λ h. rw (h .kind) (held (softReset (b .phase)) (either (isStopped (b .phase)) Nothing Awaits tt tt)))
+    also (λ h. rw (h .kind))
+    also tt
+  where
+    s : Setup
+    s = setupOf setup
+
+    held : (c : Change) → Unset c → configuration (made c b) ≡ configuration b
+    held c u = ap (λ (t : Bool). cond t 2 0) (kept c b u)
+
+    two-or-none : {v : ℕ} → (eqb v 0 || eqb v 2) ≡ true → cond (eqb v 2) 2 0 ≡ v
+    two-or-none {v} h = go (eqb v 0) refl (eqb v 2) refl h
+      where
+        go : (t : Bool) → eqb v 0 ≡ t → (u : Bool) → eqb v 2 ≡ u → (t || u) ≡ true → cond u 2 0 ≡ v
+        go t e true f h = sym (eqb-true v 2 f)
+        go true e false f h = sym (eqb-true v 0 e)
+        go false e false f h = absurd (false≢true h)
+
+same : (t : Bool) (c : ℕ) → c ≡ cond t c c
+same true c = refl
+same false c = refl
+
+-- an event whose change does not set the configuration, whatever its answer
+event-keeps : (w : World) (e : Event) → Unset (changeDone w e) → setsTo e (configuration (w .bridge)) ≡ configuration (w .bridge)
+    → configuration (step w e .next .bridge) ≡ cond (done (step w e .answer)) (setsTo e (configuration (w .bridge))) (configuration (w .bridge))
+unfolding step change
+event-keeps w e u k =
+    let n : ℕ = answer w e in
+    rw k
+    (ap (λ (t : Bool). cond t 2 0)
+    (kept (change w e) (w .bridge)
+    (either (done n) (changeDone w e) (cond (damaged n) Stops Nothing) u (either (damaged n) Stops Nothing tt tt)))
+    ∙ same (done n) (configuration (w .bridge)))
+
+event-sets : (w : World) (e : Event)
+    → configuration (step w e .next .bridge) ≡ cond (done (step w e .answer)) (setsTo e (configuration (w .bridge))) (configuration (w .bridge))
+unfolding step change
+event-sets w BusReset = refl
+event-sets w (Control setup host room) = rw request-undamaged (go (done n) refl)
+  where
+    n : ℕ
+    n = requestAnswer (w .bridge .configured) (sizeOf (w .memory)) setup (length host) room
+
+    go : (t : Bool) → done n ≡ t
+        → configuration (made (cond t (changeBy (requestOf (setupOf setup)) (setupOf setup) (w .bridge)) Nothing) (w .bridge))
+        ≡ cond t (setsTo (Control setup host room) (configuration (w .bridge))) (configuration (w .bridge))
+    go true e =
+        let k = request-passed (w .bridge .configured) (sizeOf (w .memory)) setup (length host) room (eqb-true n 0 e) in
+        request-each (λ r. configuration (made (changeBy r (setupOf setup) (w .bridge)) (w .bridge)) ≡ setsTo (Control setup [] 0) (configuration (w .bridge)))
+        (setupOf setup) (request-sets setup (w .bridge)) (k .1 .1 .0)
+    go false e = refl
+event-sets w (Packet p room) = event-keeps w (Packet p room) (command-unset (recognises (signatureOf (w .bytes)) p) (commandOf p)) refl
+event-sets w (Report direction failed amount) =
+    event-keeps w (Report direction failed amount) (report-unset direction failed amount (w .bridge .phase)) refl
+event-sets w (StatusRequest room) = event-keeps w (StatusRequest room) tt refl
+
+run-sets : (w : World) (history : List Event) → configuration (after rules w history .bridge) ≡ configured rules w history (configuration (w .bridge))
+run-sets w [] = refl
+run-sets w (e ∷ es) = run-sets (step w e .next) es ∙ ap (λ (c : ℕ). configured rules (step w e .next) es c) (event-sets w e)
+
+configuration-told : (w : World) → Replies (step w (asking 0x80 0x08 0 0 1)) (configuration (w .bridge) ∷ [])
+unfolding step change requestOf requestAnswer
+configuration-told w = simp and-false (refl, refl)
+
+pub configuration-is-told : ConfigurationIsTold rules
+configuration-is-told memory history =
+    let t = configuration-told (after rules (powered memory) history) in
+    (t .0, t .1 ∙ ap (λ (c : ℕ). c ∷ []) (run-sets (powered memory) history))
+
+pub bus-reset-is-power-on : BusResetIsPowerOn rules
+unfolding step change
+bus-reset-is-power-on w memory = refl
+
+pub configuration-restarts : ConfigurationRestarts rules
+unfolding step change requestOf requestAnswer
+configuration-restarts w = simp and-false (refl, refl, refl, refl)
+
+pub power-on-is-read : PowerOnIsRead rules
+unfolding step change requestOf requestAnswer address
+power-on-is-read memory = (refl, refl)
+
+-- ---- pipes
+
+-- a check of 11 is told by the answer, where none behind it has that number
+eleven : (halted : Bool) (behind : List Check) → allNumbers (λ n. not (eqb n 11)) behind ≡ true → halted ≡ eqb (cond halted 11 (first behind)) 11
+eleven true behind h = refl
+eleven false behind h = sym (not-true _ (answer-has (λ n. not (eqb n 11)) behind h))
+
+pub halts-are-told : HaltsAreTold rules
+unfolding step change requestOf requestAnswer packetAnswer statusAnswer
+halts-are-told w p room running =
+    let b : Bridge = w .bridge in
+    let behind : List Check = drop 2 (packetChecks b p (length (operationsFor (signatureOf (w .bytes)) p)) room) in
+    rw (running .configured, running .runs) (
+      (refl, ap (λ (t : Bool). one t ∷ 0 ∷ []) (eleven (b .halts .outward) behind refl)),
+      (refl, ap (λ (t : Bool). one t ∷ 0 ∷ []) (eleven (b .halts .inward) (drop 2 (statusChecks b room)) refl)),
+    )
+
+-- a damaged packet met a configured bridge, and has stopped it
+damage-left : (w : World) (p : List ℕ) (room : ℕ) → damages (step w (Packet p room) .answer) ≡ true
+    → step w (Packet p room) .next ≡ world (made Stops (w .bridge)) (w .bytes) (w .memory)
+damage-left w p room d =
+    let n : ℕ = step w (Packet p room) .answer in
+    rw d at (refusals w (Packet p room) (λ z. false≢true (rw z at d)) .2)
+
+damage-configured : (w : World) (p : List ℕ) (room : ℕ) → damages (step w (Packet p room) .answer) ≡ true → w .bridge .configured ≡ true
+unfolding step packetAnswer
+damage-configured w p room d =
+    go (w .bridge .configured) (first (drop 1 (packetChecks (w .bridge) p (length (operationsFor (signatureOf (w .bytes)) p)) room))) d
+  where
+    go : (c : Bool) (n : ℕ) → damages (cond (not c) 4 n) ≡ true → c ≡ true
+    go true n h = refl
+    go false n h = absurd (false≢true h)
+
+stop-halts : (b : Bridge) (bytes memory p : List ℕ) (room : ℕ) → b .configured ≡ true
+    → (let s : World = world (made Stops b) bytes memory in
+    (step s (Packet p room) .answer ≡ 11) × (step s (StatusRequest room) .answer ≡ 11)
+    × Replies (step s (asking 0x82 0x00 0 0x01 2)) (1 ∷ 0 ∷ []) × Replies (step s (asking 0x82 0x00 0 0x82 2)) (1 ∷ 0 ∷ []))
+unfolding step change requestOf requestAnswer packetAnswer statusAnswer
+stop-halts b bytes memory p room c = rw c (refl, refl, (refl, refl), (refl, refl))
+
+pub damage-halts : DamageHalts rules
+damage-halts w q p room d =
+    rw (damage-left w q room d) (stop-halts (w .bridge) (w .bytes) (w .memory) p room (damage-configured w q room d))
+
+-- outside a stop Clear Feature clears
+running-clears : (p : Phase) → isStopped p ≡ false → clears p ≡ true
+running-clears Awaiting h = refl
+running-clears (Busy direction tag l) h = refl
+running-clears (StatusWaiting tag residue status) h = refl
+running-clears (Stopped reset) h = absurd (true≢false h)
+
+pub clear-clears : ClearClears rules
+unfolding step change requestOf requestAnswer
+clear-clears w running =
+    rw (running .configured, running-clears (w .bridge .phase) (running .runs), running .runs)
+    (refl, ((refl, refl, refl), refl), refl, refl, refl, ((refl, refl, refl), refl), refl, refl)
+
+pub resets-agree : ResetsAgree rules
+unfolding step change requestOf requestAnswer
+resets-agree w running = rw (running .configured, running .runs) (refl, refl, refl, (refl, refl, refl), refl, refl)
+
+-- ---- replies
+
+pub zeros-are-told : ZerosAreTold rules
+unfolding step change requestOf requestAnswer
+zeros-are-told w value index n c = rw (c, whole n, le-ltb n n (omega arith)) ((refl, refl), (refl, refl))
+
+-- a request of the table that asks changes nothing of the bridge and writes nothing
+asking-rows : (s : Setup) (b : Bridge) → 0x80 ≤ s .kind
+    → EachRow (λ r. (changeBy r s b ≡ Nothing) × (isA LoadConfigData r ≡ false)) s table
+asking-rows s b h =
+    (λ f. absurd (out (f .kind) refl))
+    also (λ f. (refl, refl))
+    also (λ f. absurd (out (f .kind) refl))
+    also (λ f. (refl, refl))
+    also (λ f. (refl, refl))
+    also (λ f. absurd (out (f .kind) refl))
+    also (λ f. absurd (out (f .kind) refl))
+    also (λ f. (refl, refl))
+    also (λ f. absurd (out (f .kind) refl))
+    also (λ f. (refl, refl))
+    also tt
+  where
+    out : {k : ℕ} → s .kind ≡ k → ltb k 0x80 ≡ true → ⊥
+    out {k} e l = let m = ltb-true k 0x80 l in omega arith
+
+pub asking-changes-nothing : AskingChangesNothing rules
+unfolding step change
+asking-changes-nothing w setup host room h = rw request-undamaged (go (done n) refl)
+  where
+    n : ℕ
+    n = requestAnswer (w .bridge .configured) (sizeOf (w .memory)) setup (length host) room
+
+    s : Setup
+    s = setupOf setup
+
+    go : (t : Bool) → done n ≡ t
+        → world (made (cond t (changeBy (requestOf s) s (w .bridge)) Nothing) (w .bridge)) (cond t (bytesAfter (requestOf s) s host (w .bytes)) (w .bytes))
+        (cond t (memoryAfter (requestOf s) s host (w .memory)) (w .memory))
+        ≡ w
+    go true e =
+        let k = request-passed (w .bridge .configured) (sizeOf (w .memory)) setup (length host) room (eqb-true n 0 e) in
+        let r = request-each (λ r. (changeBy r s (w .bridge) ≡ Nothing) × (isA LoadConfigData r ≡ false)) s (asking-rows s (w .bridge) h) (k .1 .1 .0) in
+        rw (r .0, r .1)
+    go false e = refl
