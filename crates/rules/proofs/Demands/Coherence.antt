@@ -15,6 +15,7 @@ use Rattle.rules.specs.declared.Direction.{Direction}
 use Rattle.rules.specs.declared.Direction.the-variants.{Out, In}
 use Rattle.rules.specs.declared.Phase.{Phase}
 use Rattle.rules.specs.declared.Phase.the-variants.{Awaiting, Busy, StatusWaiting, Stopped}
+use Rattle.rules.specs.declared.Request.{Request}
 use Rattle.rules.specs.declared.Request.the-variants.{LoadConfigData}
 use Rattle.rules.specs.declared.Setup.{Setup}
 use Rattle.rules.specs.Words.{one, Check, first}
@@ -84,9 +85,10 @@ report-unset direction failed amount (StatusWaiting tag residue status) = tt
 report-unset direction failed amount (Stopped reset) = tt
 
 -- an accepted request leaves the configuration as it is, or as Set Configuration says
-request-sets : (setup : List ℕ) (b : Bridge)
-    → (let s = setupOf setup in
-    EachRow (λ r. configuration (made (changeBy r s b) b) ≡ setsTo (Control setup [] 0) (configuration b)) s table)
+abbrev SetsConfiguration : List ℕ → Bridge → Request → Type 0
+SetsConfiguration setup b r = configuration (made (changeBy r (setupOf setup) b) b) ≡ setsTo (Control setup [] 0) (configuration b)
+
+request-sets : (setup : List ℕ) (b : Bridge) → EachRow (SetsConfiguration setup b) (setupOf setup) table
 request-sets setup b =
     (λ h. rw (h .kind, h .code) (two-or-none (h .value)))
     also (λ h. rw (h .kind))
@@ -144,8 +146,7 @@ event-sets w (Control setup host room) = rw request-undamaged (go (done n) refl)
         ≡ cond t (setsTo (Control setup host room) (configuration (w .bridge))) (configuration (w .bridge))
     go true e =
         let k = request-passed (w .bridge .configured) (sizeOf (w .memory)) setup (length host) room (eqb-true n 0 e) in
-        request-each (λ r. configuration (made (changeBy r (setupOf setup) (w .bridge)) (w .bridge)) ≡ setsTo (Control setup [] 0) (configuration (w .bridge)))
-        (setupOf setup) (request-sets setup (w .bridge)) (k .1 .1 .0)
+        request-each (SetsConfiguration setup (w .bridge)) (setupOf setup) (request-sets setup (w .bridge)) (k .1 .1 .0)
     go false e = refl
 event-sets w (Packet p room) = event-keeps w (Packet p room) (command-unset (recognises (signatureOf (w .bytes)) p) (commandOf p)) refl
 event-sets w (Report direction failed amount) =

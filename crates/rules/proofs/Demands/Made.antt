@@ -93,8 +93,12 @@ unfolding meaningful
 meaning p m =
     let a = and-eq-true-iff _ (leb (byte 14 p) 16) .0 m in
     let b = and-eq-true-iff _ (leb 1 (byte 14 p)) .0 (a .0) in
-    let c = and-eq-true-iff (eqb (byte 12 p) 0x00 || eqb (byte 12 p) 0x80) (eqb (byte 13 p) 0) .0 (b .0) in
-    (flags (eqb (byte 12 p) 0x80) refl (eqb (byte 12 p) 0x00) refl (c .0), eqb-true (byte 13 p) 0 (c .1), leb-true 1 (byte 14 p) (b .1), leb-true (byte 14 p) 16 (a .1))
+    let c = and-eq-true-iff (eqb (byte 12 p) 0x00 || eqb (byte 12 p) 0x80) (eqb (byte 13 p) 0) .0 (b .0) in (
+      flags (eqb (byte 12 p) 0x80) refl (eqb (byte 12 p) 0x00) refl (c .0),
+      eqb-true (byte 13 p) 0 (c .1),
+      leb-true 1 (byte 14 p) (b .1),
+      leb-true (byte 14 p) 16 (a .1),
+    )
   where
     flags : (t : Bool) → eqb (byte 12 p) 0x80 ≡ t → (u : Bool) → eqb (byte 12 p) 0x00 ≡ u → (u || t) ≡ true → byte 12 p ≡ flagsFor (cond t In Out)
     flags true e u f h = eqb-true (byte 12 p) 0x80 e

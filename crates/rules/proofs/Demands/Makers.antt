@@ -145,7 +145,8 @@ zeros-behind : (contents : List ℕ) (k : ℕ) → length contents ≡ 8 → byt
 zeros-behind contents k eights =
     ap (λ (n : ℕ). byte (n + k) (contents ++ 0 ∷ 0 ∷ 0 ∷ [])) (sym eights) ∙ getD-append-add contents (0 ∷ 0 ∷ 0 ∷ []) k 0
 
-module _ (signature count l : ℕ) (d : Direction) (acts registers : ℕ → Bool) (contents : List ℕ) (eights : length contents ≡ 8) (askable : Askable acts l d) where
+module _ (signature count l : ℕ) (d : Direction) (acts registers : ℕ → Bool) (contents : List ℕ) (eights : length contents ≡ 8)
+    (askable : Askable acts l d) where
   abbrev block : List ℕ
   block = passThrough signature acts registers count contents
 

@@ -16,7 +16,7 @@ use Rattle.rules.specs.Held.{World, sizeOf}
 use Rattle.rules.specs.Requests.{Known, setupOf, requestOf, needsConfiguration, inBytes, inMemory, address, isA, storeOf}
 use Rattle.rules.specs.Answers.{requestAnswer, packetAnswer, reportAnswer, statusAnswer}
 use Rattle.rules.specs.Step.{Event, BusReset, Control, Packet, Report, StatusRequest, answer, bytesDone, memoryDone, done, change, step, rules}
-use Rattle.rules.specs.Demands.Requests.{wire, WholeFields, Unconfigured, Holds, ExactWrites, NoOtherWrites, ExactReads}
+use Rattle.rules.specs.Demands.Requests.{WholeFields, Unconfigured, Holds, ExactWrites, NoOtherWrites, ExactReads}
 use Rattle.rules.proofs.Checks.{request-has, accepted-write}
 use Rattle.rules.proofs.Rows.{over-pastes}
 use Rattle.rules.proofs.Replies.{read-inside}
@@ -24,12 +24,8 @@ use Rattle.rules.proofs.Replies.{read-inside}
 pub whole : (x : ℕ) → x % 256 + 256 * (x / 256) ≡ x
 whole x = omega arith
 
-pub fields : (kind code value index n : ℕ)
-    → setupOf (wire kind code value index n) ≡ record { kind = kind; code = code; value = value; index = index; length = n }
-fields kind code value index n = simp whole
-
 pub whole-fields : WholeFields setupOf
-whole-fields kind code value index n v i l = fields kind code value index n
+whole-fields kind code value index n v i l = simp whole
 
 needs : (kind : ℕ) → (kind / 32 % 4 ≡ 1) ⊎ ((kind / 32 % 4 ≡ 2) ⊎ (kind % 32 ≡ 2)) → needsConfiguration kind ≡ true
 needs kind (inl h) = rw h

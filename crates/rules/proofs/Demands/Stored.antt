@@ -59,7 +59,8 @@ record Wrote (w : World) (place start : ℕ) (host : List ℕ) (room : ℕ) : Ty
   eight : (inMemory place && not (atEight start)) ≡ false
   page : (inMemory place && not (onePage start (length host))) ≡ false
   next : step w (Control (wire 0x40 0x01 place start (length host)) host room) .next
-      ≡ world (w .bridge) (cond (not (inMemory place)) (over (w .bytes) start host) (w .bytes)) (cond (inMemory place) (over (w .memory) start host) (w .memory))
+      ≡ world (w .bridge) (cond (not (inMemory place)) (over (w .bytes) start host) (w .bytes))
+      (cond (inMemory place) (over (w .memory) start host) (w .memory))
 
 wrote : (w : World) (place start : ℕ) (host : List ℕ) (room : ℕ)
     → step w (Control (wire 0x40 0x01 place start (length host)) host room) .answer ≡ 0 → Wrote w place start host room
@@ -111,7 +112,8 @@ written-is-read w place start host room sixteen a = rw (k .next) (go (inMemory p
         Replies (step next (asking 0xC0 0x02 place start (length host))) host)
     go true e =
         let next : World = world (w .bridge) (w .bytes) (over (w .memory) start host) in
-        let r = reads next place start (length host) (k .configured) (k .placed) (rw (over-length (w .memory) start host) (k .fitted)) (rw (over-length (w .memory) start host) right) in
+        let long : length (over (w .memory) start host) ≡ length (w .memory) = over-length (w .memory) start host in
+        let r = reads next place start (length host) (k .configured) (k .placed) (rw long (k .fitted)) (rw long right) in
         (r .0, r .1 ∙ rw e (over-read (w .memory) start host (rw e at fits)))
     go false e =
         let next : World = world (w .bridge) (over (w .bytes) start host) (w .memory) in
@@ -181,4 +183,5 @@ written-was-writable w place start host room some a = go (inMemory place) refl (
         inr (eqb-true place 2 e, (start / 256, start % 256 / 8, r .0, r .1, leb-true (start + n) m (and-eq-true-iff (ltb start m) _ .0 i .1)))
     go false e p i eights pages =
         let b = and-eq-true-iff (leb 2 start && leb start 15) (leb (start + n) 16) .0 i in
-        inl (eqb-true place 0 (rw or-false at p), leb-true 2 start (and-eq-true-iff (leb 2 start) (leb start 15) .0 (b .0) .0), leb-true (start + n) 16 (b .1))
+        let c = and-eq-true-iff (leb 2 start) (leb start 15) .0 (b .0) in
+        inl (eqb-true place 0 (rw or-false at p), leb-true 2 start (c .0), leb-true (start + n) 16 (b .1))
