@@ -7,10 +7,11 @@ use Prim.Native.Nat.{ℕ}
 use lib.Dec.{eqb, ltb}
 use lib.ListN.{length}
 use borrow.Author.Tests.{eqb-true, eqb-false, not-true, not-false}
+use Rattle.rules.specs.declared.Request.{Request}
 use Rattle.rules.specs.declared.Request.the-variants.{LoadConfigData}
 use Rattle.rules.specs.declared.Setup.{Setup}
 use Rattle.rules.specs.Words.{Check, first}
-use Rattle.rules.specs.Requests.{Named, Unknown, Known, Row, table, fits, lookup, setupOf, requestOf, isA, inBytes, inMemory, address, sent}
+use Rattle.rules.specs.Requests.{Named, Unknown, Known, isUnknown, Row, table, fits, lookup, setupOf, requestOf, isA, inBytes, inMemory, address, sent}
 use Rattle.rules.specs.Answers.{requestChecks, requestAnswer}
 use Rattle.rules.specs.Step.{damaged}
 
@@ -136,17 +137,20 @@ infixr 20 _also_
 pub _also_ : {A B : Type 0} → A → B → A × B
 x also y = (x, y)
 
--- so has the request that it makes, Unknown aside
-lookup-each : (P : Request → Type 0) (s : Setup) (rs : List Row) → EachRow P s rs → isA Unknown (lookup rs s) ≡ false → P (lookup rs s)
+-- so has the request that it makes, if it makes one
+abbrev pub Makes : (Request → Type 0) → Named → Type 0
+Makes P q = (r : Request) × (q ≡ Known r) × P r
+
+lookup-each : (P : Request → Type 0) (s : Setup) (rs : List Row) → EachRow P s rs → isUnknown (lookup rs s) ≡ false → Makes P (lookup rs s)
 lookup-each P s [] each u = absurd (true≢false u)
 lookup-each P s (r ∷ rs) each u = go (fits r s) refl u (lookup-each P s rs (each .1))
   where
-    go : (t : Bool) → fits r s ≡ t → isA Unknown (cond t (r .names) (lookup rs s)) ≡ false → (isA Unknown (lookup rs s) ≡ false → P (lookup rs s))
-        → P (cond t (r .names) (lookup rs s))
-    go true e u ih = each .0 (fitted r s e)
+    go : (t : Bool) → fits r s ≡ t → isUnknown (cond t (Known (r .names)) (lookup rs s)) ≡ false
+        → (isUnknown (lookup rs s) ≡ false → Makes P (lookup rs s)) → Makes P (cond t (Known (r .names)) (lookup rs s))
+    go true e u ih = (r .names, refl, each .0 (fitted r s e))
     go false e u ih = ih u
 
-pub request-each : (P : Request → Type 0) (s : Setup) → EachRow P s table → isA Unknown (requestOf s) ≡ false → P (requestOf s)
+pub request-each : (P : Request → Type 0) (s : Setup) → EachRow P s table → isUnknown (requestOf s) ≡ false → Makes P (requestOf s)
 unfolding requestOf
 request-each P s each u = lookup-each P s table each u
 

@@ -8,19 +8,18 @@ use lib.Dec.{leb, ltb}
 use lib.ListN.{length, drop, length-drop, length-replicate}
 use lib.Seq.{length-take-le}
 use borrow.Author.Tests.{eqb-true, leb-true, ltb-false, not-false}
-use Rattle.rules.specs.declared.Request.{Request}
-use Rattle.rules.specs.declared.Request.the-variants.{SetConfiguration, GetConfiguration, ClearFeature, GetStatus, GetMaxLun, MassStorageReset, LoadConfigData, ReadConfigData, SoftReset, BogusRead, Unknown}
+use Rattle.rules.specs.declared.Request.the-variants.{SetConfiguration, GetConfiguration, ClearFeature, GetStatus, GetMaxLun, MassStorageReset, LoadConfigData, ReadConfigData, SoftReset, BogusRead}
 use Rattle.rules.specs.declared.Setup.{Setup}
 use Rattle.rules.specs.Held.{World, sizeOf}
-use Rattle.rules.specs.Requests.{table, setupOf, requestOf, isA, inMemory, address, returned, storeOf, replyTo, replies}
+use Rattle.rules.specs.Requests.{Named, Unknown, Known, isUnknown, table, setupOf, requestOf, inMemory, address, returned, storeOf, replyTo, replies}
 use Rattle.rules.specs.Answers.{requestAnswer}
 use Rattle.rules.proofs.Checks.{EachRow, _also_, request-each, request-passed, accepted-write}
 
 -- the request that a setup makes, Unknown aside, replies what wLength says
-request-replies : (s : Setup) → isA Unknown (requestOf s) ≡ false → returned s ≡ replies (requestOf s) s
-request-replies s u = request-each (λ r. returned s ≡ replies r s) s rows u
+request-replies : (s : Setup) → isUnknown (requestOf s) ≡ false → returned s ≡ replies (requestOf s) s
+request-replies s u = let made = request-each (λ r. returned s ≡ replies (Known r) s) s rows u in rw (made .1) (made .2)
   where
-    rows : EachRow (λ r. returned s ≡ replies r s) s table
+    rows : EachRow (λ r. returned s ≡ replies (Known r) s) s table
     rows =
         (λ h. rw (h .kind))
         also (λ h. rw (h .kind) (eqb-true _ _ (h .length)))
@@ -56,30 +55,30 @@ module _ (w : World) (setup : List ℕ) (host room : ℕ) (sixteen : length (w .
   abbrev s : Setup
   s = setupOf setup
 
-  pub write-inside : requestOf s ≡ LoadConfigData → (s .index + s .length ≤ length (storeOf (s .value) w)) × (host ≡ s .length)
+  pub write-inside : requestOf s ≡ Known LoadConfigData → (s .index + s .length ≤ length (storeOf (s .value) w)) × (host ≡ s .length)
   write-inside e =
       let p = accepted-write (w .bridge .configured) (sizeOf (w .memory)) setup host room e accepted in
       (inside true w (s .value) (s .index) (s .length) sixteen (p .1), p .2)
 
-  pub read-inside : requestOf s ≡ ReadConfigData → s .index + s .length ≤ length (storeOf (s .value) w)
+  pub read-inside : requestOf s ≡ Known ReadConfigData → s .index + s .length ≤ length (storeOf (s .value) w)
   read-inside e =
       let p = request-passed (w .bridge .configured) (sizeOf (w .memory)) setup host room accepted in
       inside false w (s .value) (s .index) (s .length) sixteen
       (not-false (address false (sizeOf (w .memory)) (s .value) (s .index) (s .length)) (rw e at (p .1 .1 .1 .1 .1 .0)))
 
-  reply-length : (r : Request) → (r ≡ ReadConfigData → s .index + s .length ≤ length (storeOf (s .value) w)) → length (replyTo r s w) ≡ replies r s
-  reply-length SetConfiguration h = refl
-  reply-length GetConfiguration h = refl
-  reply-length ClearFeature h = refl
-  reply-length GetStatus h = refl
-  reply-length GetMaxLun h = refl
-  reply-length MassStorageReset h = refl
-  reply-length LoadConfigData h = refl
-  reply-length ReadConfigData h =
+  reply-length : (r : Named) → (r ≡ Known ReadConfigData → s .index + s .length ≤ length (storeOf (s .value) w)) → length (replyTo r s w) ≡ replies r s
+  reply-length (Known SetConfiguration) h = refl
+  reply-length (Known GetConfiguration) h = refl
+  reply-length (Known ClearFeature) h = refl
+  reply-length (Known GetStatus) h = refl
+  reply-length (Known GetMaxLun) h = refl
+  reply-length (Known MassStorageReset) h = refl
+  reply-length (Known LoadConfigData) h = refl
+  reply-length (Known ReadConfigData) h =
       let k : s .index + s .length ≤ length (storeOf (s .value) w) = h refl in
       length-take-le (s .length) (drop (s .index) (storeOf (s .value) w)) (rw length-drop (omega arith))
-  reply-length SoftReset h = refl
-  reply-length BogusRead h = length-replicate (s .length) 0
+  reply-length (Known SoftReset) h = refl
+  reply-length (Known BogusRead) h = length-replicate (s .length) 0
   reply-length Unknown h = refl
 
   pub reply-count : length (replyTo (requestOf s) s w) ≡ replies (requestOf s) s

@@ -87,4 +87,5 @@ unfolding step
 accepted-was-asked w setup host room h a =
     let k = request-passed (w .bridge .configured) (sizeOf (w .memory)) setup (length host) room a in
     let s : Setup = setupOf setup in
-    (requestOf s, request-each (Asks setup) s (each-asks setup (rewired setup h (eqb-true _ 8 (not-false _ (k .0))))) (k .1 .1 .0))
+    let made = request-each (Asks setup) s (each-asks setup (rewired setup h (eqb-true _ 8 (not-false _ (k .0))))) (k .1 .1 .0) in
+    (made .0, made .2)

@@ -22,7 +22,7 @@ use Rattle.rules.specs.Words.{one, Check, first}
 use Rattle.rules.specs.Held.{World, world, powered, configuration, sizeOf, bulkOut, isStopped}
 use Rattle.rules.specs.Changes.{made}
 use Rattle.rules.specs.Stopping.{clears, clearsPipe, clearFeature, massStorageReset, softReset}
-use Rattle.rules.specs.Requests.{table, address, setupOf, requestOf, isA, changeBy, bytesAfter, memoryAfter}
+use Rattle.rules.specs.Requests.{Known, table, address, setupOf, requestOf, isA, changeBy, bytesAfter, memoryAfter}
 use Rattle.rules.specs.Packets.{commandOf, signatureOf, recognises, commandTaken}
 use Rattle.rules.specs.Reports.{reportTaken}
 use Rattle.rules.specs.Answers.{requestAnswer, packetChecks, packetAnswer, statusChecks, statusAnswer}
@@ -86,7 +86,7 @@ report-unset direction failed amount (Stopped reset) = tt
 
 -- an accepted request leaves the configuration as it is, or as Set Configuration says
 abbrev SetsConfiguration : List ℕ → Bridge → Request → Type 0
-SetsConfiguration setup b r = configuration (made (changeBy r (setupOf setup) b) b) ≡ setsTo (Control setup [] 0) (configuration b)
+SetsConfiguration setup b r = configuration (made (changeBy (Known r) (setupOf setup) b) b) ≡ setsTo (Control setup [] 0) (configuration b)
 
 request-sets : (setup : List ℕ) (b : Bridge) → EachRow (SetsConfiguration setup b) (setupOf setup) table
 request-sets setup b =
@@ -146,7 +146,8 @@ event-sets w (Control setup host room) = rw request-undamaged (go (done n) refl)
         ≡ cond t (setsTo (Control setup host room) (configuration (w .bridge))) (configuration (w .bridge))
     go true e =
         let k = request-passed (w .bridge .configured) (sizeOf (w .memory)) setup (length host) room (eqb-true n 0 e) in
-        request-each (SetsConfiguration setup (w .bridge)) (setupOf setup) (request-sets setup (w .bridge)) (k .1 .1 .0)
+        let r = request-each (SetsConfiguration setup (w .bridge)) (setupOf setup) (request-sets setup (w .bridge)) (k .1 .1 .0) in
+        rw (r .1) (r .2)
     go false e = refl
 event-sets w (Packet p room) = event-keeps w (Packet p room) (command-unset (recognises (signatureOf (w .bytes)) p) (commandOf p)) refl
 event-sets w (Report direction failed amount) =
@@ -247,7 +248,7 @@ zeros-are-told w value index n c = rw (c, whole n, le-ltb n n (omega arith)) ((r
 
 -- a request of the table that asks changes nothing of the bridge and writes nothing
 asking-rows : (s : Setup) (b : Bridge) → 0x80 ≤ s .kind
-    → EachRow (λ r. (changeBy r s b ≡ Nothing) × (isA LoadConfigData r ≡ false)) s table
+    → EachRow (λ r. (changeBy (Known r) s b ≡ Nothing) × (isA LoadConfigData (Known r) ≡ false)) s table
 asking-rows s b h =
     (λ f. absurd (out (f .kind) refl))
     also (λ f. (refl, refl))
@@ -280,6 +281,6 @@ asking-changes-nothing w setup host room h = rw request-undamaged (go (done n) r
         ≡ w
     go true e =
         let k = request-passed (w .bridge .configured) (sizeOf (w .memory)) setup (length host) room (eqb-true n 0 e) in
-        let r = request-each (λ r. (changeBy r s (w .bridge) ≡ Nothing) × (isA LoadConfigData r ≡ false)) s (asking-rows s (w .bridge) h) (k .1 .1 .0) in
-        rw (r .0, r .1)
+        let r = request-each (λ r. (changeBy (Known r) s (w .bridge) ≡ Nothing) × (isA LoadConfigData (Known r) ≡ false)) s (asking-rows s (w .bridge) h) (k .1 .1 .0) in
+        rw (r .1, r .2 .0, r .2 .1)
     go false e = refl

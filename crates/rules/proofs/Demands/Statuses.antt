@@ -19,7 +19,7 @@ use Rattle.rules.specs.Packets.{recognised, recognises}
 use Rattle.rules.specs.Reports.{haltsPipe, directionNumber, hostNumber, mismatch}
 use Rattle.rules.specs.Answers.{statusAnswer}
 use Rattle.rules.specs.Step.{Packet, Report, StatusRequest, step, rules}
-use Rattle.rules.specs.Demands.Makers.{packet, Fills, told, telling}
+use Rattle.rules.specs.Demands.Makers.{packet, Fills, takenApart, telling}
 use Rattle.rules.specs.Demands.Coherence.{ordering, reported, StatusIsTold, OtherIsFailed}
 use Rattle.rules.proofs.Demands.Cases.{legal, report-taken}
 use Rattle.rules.proofs.Demands.Makers.{joins, direction-made, packet-leaves, made-is-accepted, made-begins, status-read-back}
@@ -28,7 +28,7 @@ use Rattle.rules.proofs.Demands.Coherence.{clear-clears}
 
 abbrev Tells : ℕ → ℕ → ℕ → World → Type 0
 Tells tag residue status w =
-    (step w (StatusRequest 13) .answer ≡ 0) × (told (step w (StatusRequest 13) .reply) ≡ telling tag residue status)
+    (step w (StatusRequest 13) .answer ≡ 0) × (takenApart (step w (StatusRequest 13) .reply) ≡ telling tag residue status)
 
 -- a status that waits is told, with bulk in not halted
 waiting-told : (w : World) (tag residue status : ℕ) → w .bridge .configured ≡ true → w .bridge .phase ≡ StatusWaiting tag residue status

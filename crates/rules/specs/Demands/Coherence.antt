@@ -14,7 +14,7 @@ use Rattle.rules.specs.Held.{World, world, isStopped}
 use Rattle.rules.specs.Step.{Event, BusReset, Control, Packet, Report, StatusRequest, Outcome, Machine, after, reached, done}
 use Rattle.rules.specs.Demands.Refusals.{damages}
 use Rattle.rules.specs.Demands.Requests.{wire}
-use Rattle.rules.specs.Demands.Makers.{packet, Fills, passThrough, Askable, told, telling, Free}
+use Rattle.rules.specs.Demands.Makers.{packet, Fills, passThrough, Askable, takenApart, telling, Free}
 
 -- a request that asks for n bytes and is lent room for them, and one that moves none
 abbrev pub asking : ℕ → ℕ → ℕ → ℕ → ℕ → Event
@@ -193,7 +193,7 @@ StatusIsTold m =
     → Free (m .shows s) → tag < 2 ^ 32 → l < 2 ^ 32 → Askable action l d → length contents ≡ 8 → failed ≤ 1 → amount ≤ l
     → (let p = packet tag l d (passThrough (byte 0x04 (m .shows s .bytes)) action registers count contents) [] in
     let status = statusTaken m s (Packet p 11 ∷ Report (reported d) failed amount ∷ []) in
-    (status .answer ≡ 0) × (told (status .reply) ≡ telling tag (l - amount) failed))
+    (status .answer ≡ 0) × (takenApart (status .reply) ≡ telling tag (l - amount) failed))
 
 -- That of any other command tells its tag, all of L, and that it failed: its block is not sixteen bytes, or has another first or second byte.
 abbrev pub OtherIsFailed : Machine → Type 0
@@ -202,4 +202,4 @@ OtherIsFailed m =
     → Free (m .shows s) → tag < 2 ^ 32 → l < 2 ^ 32 → Fills block filling
     → ((length block ≡ 16 → ⊥) ⊎ ((byte 0 block ≡ byte 0x04 (m .shows s .bytes) → ⊥) ⊎ (byte 1 block ≡ 0x24 → ⊥)))
     → (let status = statusTaken m s (Packet (packet tag l d block filling) 11 ∷ []) in
-    (status .answer ≡ 0) × (told (status .reply) ≡ telling tag l 1))
+    (status .answer ≡ 0) × (takenApart (status .reply) ≡ telling tag l 1))

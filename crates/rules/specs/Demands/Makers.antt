@@ -15,6 +15,7 @@ use Rattle.rules.specs.declared.Request.{Request}
 use Rattle.rules.specs.declared.Request.the-variants.{SetConfiguration, GetConfiguration, ClearFeature, GetStatus, GetMaxLun, MassStorageReset, LoadConfigData, ReadConfigData, SoftReset, BogusRead}
 use Rattle.rules.specs.Words.{byte, bit, one}
 use Rattle.rules.specs.Held.{World}
+use Rattle.rules.specs.Requests.{Named, Known}
 use Rattle.rules.specs.Step.{Control, Packet, Machine}
 use Rattle.rules.specs.Demands.Requests.{wire}
 use Rattle.rules.specs.Demands.WellFormed.{Bytes}
@@ -58,7 +59,7 @@ abbrev pub Askable : (ℕ → Bool) → ℕ → Direction → Type 0
 Askable action l d = action 0 ≡ true → (action 3 ≡ false) × (action 4 ≡ false) × (l ≡ 8) × (d ≡ In)
 
 -- the command status wrapper (BOT 5.2), taken apart
-pub record Told : Type 0 where
+pub record TakenApart : Type 0 where
   pub size : ℕ
   pub signature : ℕ
   pub tag : ℕ
@@ -68,11 +69,11 @@ pub record Told : Type 0 where
 abbrev pub joined : List ℕ → ℕ → ℕ
 joined p k = byte k p + 256 * (byte (k + 1) p + 256 * (byte (k + 2) p + 256 * byte (k + 3) p))
 
-abbrev pub told : List ℕ → Told
-told p = record { size = length p; signature = joined p 0; tag = joined p 4; residue = joined p 8; status = byte 12 p }
+abbrev pub takenApart : List ℕ → TakenApart
+takenApart p = record { size = length p; signature = joined p 0; tag = joined p 4; residue = joined p 8; status = byte 12 p }
 
 -- "indicating CSW": thirteen bytes that begin with "the value 53425355h (little endian)"
-abbrev pub telling : ℕ → ℕ → ℕ → Told
+abbrev pub telling : ℕ → ℕ → ℕ → TakenApart
 telling tag residue status = record { size = 13; signature = 0x53425355; tag = tag; residue = residue; status = status }
 
 -- ---- what was made is read back
@@ -97,7 +98,7 @@ BlockReadBack act selects content =
 -- A status packet tells its tag, residue and status.
 abbrev pub StatusReadBack : (ℕ → ℕ → ℕ → List ℕ) → Type 0
 StatusReadBack make =
-    (tag residue status : ℕ) → tag < 2 ^ 32 → residue < 2 ^ 32 → told (make tag residue status) ≡ telling tag residue status
+    (tag residue status : ℕ) → tag < 2 ^ 32 → residue < 2 ^ 32 → takenApart (make tag residue status) ≡ telling tag residue status
 
 -- ---- what was made is accepted
 
@@ -167,8 +168,8 @@ pub data Asks : List ℕ → Request → Type 0 where
   bogusRead : (value index n : ℕ) → Asks (wire 0xC0 0x01 value index n) BogusRead
 
 -- A setup so made is taken for that request.
-abbrev pub AskedIsFound : (List ℕ → Request) → Type 0
-AskedIsFound find = (setup : List ℕ) (r : Request) → Asks setup r → find setup ≡ r
+abbrev pub AskedIsFound : (List ℕ → Named) → Type 0
+AskedIsFound find = (setup : List ℕ) (r : Request) → Asks setup r → find setup ≡ Known r
 
 -- An accepted request was made so.
 abbrev pub AcceptedWasAsked : Machine → Type 0
