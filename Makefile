@@ -49,15 +49,17 @@ target/staticlib/libthrandue.a: $(crates)
 	rt staticlib thrandue
 	@touch $@
 
-# The two that hold proved code are x86-64 programs, on aarch64 too.
+# Those that hold proved code are x86-64 programs, on aarch64 too.
 build/bench: target/bin/bench tools/x86
 	@mkdir -p $(@D)
 	tools/x86 install $< $@
 
-build/replay: build/x86-64/replay tools/x86
+build/replay build/coverage: build/%: build/x86-64/% tools/x86
 	tools/x86 install $< $@
 
-build/x86-64/replay: $(replay) target/staticlib/libthrandue.a $(headers)
+build/x86-64/replay: $(replay) target/staticlib/libthrandue.a
+build/x86-64/coverage: check/coverage.c host/bench.c $(records) target/staticlib/libthrandue.a
+build/x86-64/replay build/x86-64/coverage: $(headers)
 	@mkdir -p $(@D)
 	tools/x86 cc $(strict) -o $@ $(filter %.c %.a,$^)
 

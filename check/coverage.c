@@ -181,9 +181,11 @@ static void copy(void *to, const void *from, size_t bytes) {
         memcpy(to, from, bytes);
 }
 
+/* Whether both are alike behind their fronts, which are no longer than they. */
 static bool same_from(size_t from, const void *one, const void *other, size_t bytes) {
     return from == bytes ||
-           memcmp((const uint8_t *)one + from, (const uint8_t *)other + from, bytes - from) == 0;
+           (from < bytes &&
+            memcmp((const uint8_t *)one + from, (const uint8_t *)other + from, bytes - from) == 0);
 }
 
 static void remember(struct coverage *coverage) {
@@ -195,25 +197,47 @@ static void remember(struct coverage *coverage) {
     copy(before->operations, bench->operations, bench->sizes.operations * sizeof(uint16_t));
 }
 
-/* A refusal changes nothing, except that 13 and 14 stop the bridge; 0 leaves the rest of the rooms
- * as it was, and only a write changes the memory. */
-static bool keeps_the_rest(const struct coverage *coverage, enum event event, uint32_t outcome) {
+static bool only_reads(enum event event) {
+    return event == GET_CONFIGURATION || event == GET_STATUS || event == GET_MAX_LUN ||
+           event == READ_CONFIG_DATA || event == BOGUS_READ;
+}
+
+/* 13 and 14 stop the bridge; any other refusal, and a request that only reads, leaves every byte of
+ * the image. */
+static bool keeps_the_image(const struct coverage *coverage, enum event event, uint8_t answer) {
+    const thrandue_image *image = coverage->bench.image;
+    const thrandue_image *before = coverage->before.image;
+    if (answer == THRANDUE_NOT_VALID || answer == THRANDUE_NOT_MEANINGFUL)
+        return thrandue_phase(image) == THRANDUE_STOPPED &&
+               thrandue_halts(image) == (THRANDUE_HALT_OUT | THRANDUE_HALT_IN) &&
+               thrandue_configuration(image) == thrandue_configuration(before);
+    return (answer == THRANDUE_DONE && !only_reads(event)) ||
+           same_from(0, image, before, sizeof *image);
+}
+
+/* What is handed out stands at the front of its room, and a refusal hands out nothing. */
+static bool keeps_the_rooms(const struct coverage *coverage, enum event event, uint32_t outcome) {
     const struct bench *bench = &coverage->bench;
     const struct bench *before = &coverage->before;
-    uint8_t answer = thrandue_answer(outcome);
     uint32_t operations = event == PACKET ? thrandue_count(outcome) : 0;
     uint32_t bytes = thrandue_count(outcome) - operations;
-    if (answer != 0 && thrandue_count(outcome) != 0)
-        return false;
-    if (answer != 0 && answer != 13 && answer != 14 &&
-        !same_from(0, bench->image, before->image, sizeof *bench->image))
-        return false;
-    if ((event != LOAD_CONFIG_DATA || answer != 0) &&
-        !same_from(0, bench->memory, before->memory, bench->sizes.memory))
+    if (thrandue_answer(outcome) != THRANDUE_DONE && thrandue_count(outcome) != 0)
         return false;
     return same_from(bytes, bench->reply, before->reply, bench->sizes.reply) &&
            same_from(operations * sizeof(uint16_t), bench->operations, before->operations,
                      bench->sizes.operations * sizeof(uint16_t));
+}
+
+/* Only an accepted write changes the memory, and nothing changes what is lent for reading: setup,
+ * host data, packet. */
+static bool keeps_the_rest(const struct coverage *coverage, const struct record *record,
+                           enum event event, uint32_t outcome) {
+    const struct bench *bench = &coverage->bench;
+    uint8_t answer = thrandue_answer(outcome);
+    bool writes = event == LOAD_CONFIG_DATA && answer == THRANDUE_DONE;
+    return keeps_the_image(coverage, event, answer) && keeps_the_rooms(coverage, event, outcome) &&
+           (writes || same_from(0, bench->memory, coverage->before.memory, bench->sizes.memory)) &&
+           same_from(0, bench_payload(bench, record), record->payload, record->length);
 }
 
 static void count_event(void *context, const struct record *record) {
@@ -224,7 +248,7 @@ static void count_event(void *context, const struct record *record) {
     uint32_t outcome = bench_event(&coverage->bench, record);
     uint8_t answer = thrandue_answer(outcome);
     coverage->counts[event][answer][phase]++;
-    if (keeps_the_rest(coverage, event, outcome))
+    if (keeps_the_rest(coverage, record, event, outcome))
         return;
     coverage->faults++;
     command_say("%s, answer %u while %s: changed what it must leave alone", event_names[event],

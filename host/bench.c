@@ -84,9 +84,12 @@ static uint32_t control_event(struct bench *bench, const uint8_t *payload, size_
                             bench->sizes.reply);
 }
 
+uint8_t *bench_payload(const struct bench *bench, const struct record *record) {
+    return bench->payload + RECORD_PAYLOAD_MOST - record->length;
+}
+
 uint32_t bench_event(struct bench *bench, const struct record *record) {
-    /* Lent at the end of its room: a read beyond the payload is one beyond the room. */
-    uint8_t *payload = bench->payload + RECORD_PAYLOAD_MOST - record->length;
+    uint8_t *payload = bench_payload(bench, record);
     memcpy(payload, record->payload, record->length);
     switch (record->kind) {
     case RECORD_BUS_RESET:

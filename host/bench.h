@@ -46,6 +46,10 @@ const char *bench_argument(struct bench_arguments *arguments);
 void bench_open(struct bench *bench, struct bench_sizes sizes);
 void bench_close(struct bench *bench);
 
+/* Where an event's payload is lent: a record of this length at the end of its room, so that a read
+ * beyond it is one beyond the room. */
+uint8_t *bench_payload(const struct bench *bench, const struct record *record);
+
 /* One event and its outcome; reply or operations stand in the bench's rooms. */
 uint32_t bench_event(struct bench *bench, const struct record *record);
 
