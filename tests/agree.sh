@@ -1,4 +1,4 @@
-# Sourced by the tests that compare programs: whether they print the same bytes. What each prints is kept in $out.
+# Sourced by the tests that compare programs: whether they print the same bytes, and all that they should. What each prints is kept in $out.
 
 # difference ONE OTHER: the number of the first line that differs, and that line of both files.
 difference() {
@@ -14,24 +14,45 @@ difference() {
     }' "$1" "$2"
 }
 
-# agree SESSION 'PROGRAM..' [OPTION..]: the programs print the same bytes; else the first line that differs is shown.
+# all_answered FILE EVENTS ENDING: a line for each event stands there, and behind them, where the session is torn, that word. What is explained
+# is indented.
+all_answered() {
+    awk -v events="$2" -v ending="$3" '
+        /^ / { next }
+        /^[0-9]/ && said == "" { answered++; next }
+        { said = said $0 }
+        END {
+            if (answered + 0 == events && said == (ending == "torn" ? "torn" : ""))
+                exit
+            print answered + 0 " answers to " events " events of a " ending " session, and then: " (said == "" ? "nothing" : said)
+            exit 1
+        }' "$1"
+}
+
+# agree SESSION EVENTS ENDING 'PROGRAM..' [OPTION..]: the programs print the same bytes, which answer all that the session holds, and each ends with
+# the status that its ENDING, whole or torn, calls for; else what is wrong is shown. The bench has one status for both.
 agree() {
     session=$1
-    programs=$2
-    shift 2
+    holds=$2
+    ending=$3
+    programs=$4
+    shift 4
     first=
     for program in $programs; do
         printed=$out/$(basename "$program").printed
-        "$program" "$@" <"$session" >"$printed" 2>/dev/null
+        "$program" "$@" >"$printed" <"$session" 2>/dev/null
         status=$?
-        if [ $status -ge 126 ]; then
-            echo "$program ended with status $status"
-            return 1
-        fi
         first=${first:-$printed}
         if ! cmp -s "$first" "$printed"; then
             difference "$first" "$printed"
             return 1
         fi
+        wanted=0
+        [ "$ending" = torn ] && [ "${program##*/}" != bench ] && wanted=1
+        if [ $status -ne $wanted ]; then
+            echo "$program ended with status $status instead of $wanted"
+            return 1
+        fi
     done
+    all_answered "$first" "$holds" "$ending"
 }
