@@ -35,10 +35,28 @@ static inline uint32_t thrandue_count(uint32_t outcome) {
     return outcome >> 8;
 }
 
-/* The answers, and what a port does on the wire. A control request with any answer but DONE is
- * answered with STALL. For HALTED and the two damaged packets the bulk pipes that thrandue_halts
- * names answer STALL until they are cleared. For WRONG_PHASE the pipe answers NAK: the packet or
- * the status request comes again later. */
+/* The answers, and what a port does on the wire. For DONE it sends the reply of a control request
+ * or the status packet, or has the drive carry out the operations. A control request with any other
+ * answer gets STALL. An empty place below is an answer that the event does not get:
+ *
+ *                     bulk out          bulk in          drive report
+ *   REPLY_ROOM                          NAK, more room
+ *   UNCONFIGURED      no handshake      no handshake     dropped
+ *   HALTED            STALL             STALL
+ *   NOT_VALID         STALL, both
+ *   NOT_MEANINGFUL    STALL, both
+ *   OPERATION_ROOM    NAK, more room
+ *   WRONG_PHASE       NAK               NAK              dropped
+ *   MALFORMED                                            set right
+ *
+ * At configuration 0 there are no bulk endpoints, so no handshake. After NAK the same packet or
+ * status request comes again: from the host, or from the port as soon as it lends more room. A
+ * report is dropped where a reset has ended its command; one that is set right is made again.
+ *
+ * Whatever the answer was, a pipe that thrandue_halts names gets STALL until it is cleared. In a
+ * stop, phase STOPPED or STOPPED_RESET, both pipes get it, also one that is cleared already: the
+ * stop is over when both are. These are the pipes whose events are answered HALTED, so a port may
+ * go by either. */
 enum {
     THRANDUE_DONE = 0,
     THRANDUE_SETUP_LENGTH = 1,
