@@ -6,7 +6,7 @@ use mathlib.Core.List.{List, [], _∷_, _++_}
 use Prim.Native.Nat.{ℕ}
 use lib.Dec.{eqb, ltb}
 use lib.ListN.{length}
-use borrow.Author.Tests.{eqb-true, eqb-false, not-true, not-false}
+use borrow.Author.Tests.{eq-eqb, eqb-true, eqb-false, not-true, not-false}
 use Rattle.rules.specs.declared.Request.{Request}
 use Rattle.rules.specs.declared.Request.the-variants.{LoadConfigData}
 use Rattle.rules.specs.declared.Setup.{Setup}
@@ -67,6 +67,12 @@ decides n (c ∷ cs) h = go (eqb (c .number) n) refl (c .applies) refl h (decide
     go true e false f h ih = inr h
     go false e true f h ih = absurd (eqb-false _ n e h)
     go false e false f h ih = (f, ih h)
+
+-- a check whose number no other behind it has applies where the answer is that number
+pub sole : (n : ℕ) (t : Bool) (behind : List Check) → allNumbers (λ k. not (eqb k n)) behind ≡ true → (t ≡ true) ⊎ (first behind ≡ n) → t ≡ true
+sole n t behind h (inl e) = e
+sole n t behind h (inr e) =
+    absurd (false≢true (rw (eq-eqb (first behind) n e) at (answer-has (λ k. not (eqb k n)) behind h)))
 
 -- checks in two parts: where none of the first applies, the second decides
 pub first-append : (cs ds : List Check) → numbered cs ≡ true → first (cs ++ ds) ≡ cond (eqb (first cs) 0) (first ds) (first cs)

@@ -10,8 +10,11 @@ pub mod Sizes
 pub mod Examples
 pub mod ShutOut
 pub mod Makers
-pub mod Made
-pub mod Asked
+pub mod Packets
+pub mod Setups
 pub mod Coherence
 pub mod Stored
 pub mod Statuses
+pub mod Turns
+pub mod Mends
+pub mod Numbers

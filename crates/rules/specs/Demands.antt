@@ -10,3 +10,5 @@ pub mod Examples
 pub mod ShutOut
 pub mod Makers
 pub mod Coherence
+pub mod Mends
+pub mod Numbers

@@ -123,7 +123,7 @@ ending (ended n c f) h = (c, f)
 -- ---- the events of a stop
 
 -- nothing to hand out
-none-given : (t : Bool) → _≡_ {A = List ℕ} (cond t [] []) []
+pub none-given : (t : Bool) → _≡_ {A = List ℕ} (cond t [] []) []
 none-given true = refl
 none-given false = refl
 

@@ -25,10 +25,12 @@ use Rattle.rules.specs.Stopping.{clears, clearsPipe, clearFeature, massS
 use Rattle.rules.specs.Requests.{Known, table, address, setupOf, requestOf, isA, changeBy, bytesAfter, memoryAfter}
 use Rattle.rules.specs.Packets.{commandOf, signatureOf, recognises, commandTaken}
 use Rattle.rules.specs.Reports.{reportTaken}
-use Rattle.rules.specs.Answers.{requestAnswer, packetChecks, packetAnswer, statusChecks, statusAnswer}
+use Rattle.rules.specs.Answers.{requestAnswer, packetChecks, packetAnswer, reportAnswer, statusChecks, statusAnswer}
 use Rattle.rules.specs.Step.{operationsFor, Event, BusReset, Control, Packet, Report, StatusRequest, answer, done, damaged, changeDone, change, step, rules, after}
 use Rattle.rules.specs.Demands.Refusals.{damages}
-use Rattle.rules.specs.Demands.Coherence.{asking, Replies, setsTo, configured, ConfigurationIsTold, BusResetIsPowerOn, ConfigurationRestarts, PowerOnIsRead, HaltsAreTold, DamageHalts, ClearClears, ResetsAgree, AskingChangesNothing, ZerosAreTold}
+use Rattle.rules.specs.Demands.Requests.{wire}
+use Rattle.rules.specs.Demands.Coherence.{asking, Replies, setsTo, configured, ConfigurationIsTold, BusResetIsPowerOn, ConfigurationRestarts, PowerOnIsRead, HaltsAreTold, DamageHalts, ClearClears, ResetsAgree, HandsOutItsOwn, AskingChangesNothing, WritingKeepsBridge, StatusKeeps, ZerosAreTold}
+use Rattle.rules.proofs.Demands.Boundary.{none-given}
 use Rattle.rules.proofs.Demands.Refusals.{refusals}
 use Rattle.rules.proofs.Demands.Requests.{whole}
 use Rattle.rules.proofs.Checks.{allNumbers, answer-has, EachRow, _also_, request-each, request-passed, request-undamaged}
@@ -215,9 +217,10 @@ damage-configured w p room d =
 stop-halts : (b : Bridge) (bytes memory p : List ℕ) (room : ℕ) → b .configured ≡ true
     → (let s : World = world (made Stops b) bytes memory in
     (step s (Packet p room) .answer ≡ 11) × (step s (StatusRequest room) .answer ≡ 11)
-    × Replies (step s (asking 0x82 0x00 0 0x01 2)) (1 ∷ 0 ∷ []) × Replies (step s (asking 0x82 0x00 0 0x82 2)) (1 ∷ 0 ∷ []))
-unfolding step change requestOf requestAnswer packetAnswer statusAnswer
-stop-halts b bytes memory p room c = rw c (refl, refl, (refl, refl), (refl, refl))
+    × Replies (step s (asking 0x82 0x00 0 0x01 2)) (1 ∷ 0 ∷ []) × Replies (step s (asking 0x82 0x00 0 0x82 2)) (1 ∷ 0 ∷ [])
+    × ((direction failed amount : ℕ) → step s (Report direction failed amount) .answer ≡ 16))
+unfolding step change requestOf requestAnswer packetAnswer reportAnswer statusAnswer
+stop-halts b bytes memory p room c = rw c (refl, refl, (refl, refl), (refl, refl), λ direction failed amount. refl)
 
 pub damage-halts : DamageHalts rules
 damage-halts w q p room d =
@@ -241,6 +244,27 @@ unfolding step change requestOf requestAnswer
 resets-agree w running = rw (running .configured, running .runs) (refl, refl, refl, (refl, refl, refl), refl, refl)
 
 -- ---- replies
+
+pub hands-out-its-own : HandsOutItsOwn rules
+unfolding step
+hands-out-its-own w BusReset = (refl, refl)
+hands-out-its-own w (Control setup host room) = rw none-given
+hands-out-its-own w (Packet p room) = rw none-given
+hands-out-its-own w (Report direction failed amount) = (rw none-given, rw none-given)
+hands-out-its-own w (StatusRequest room) = rw none-given
+
+pub writing-keeps-bridge : WritingKeepsBridge rules
+unfolding step change requestOf
+writing-keeps-bridge w place start n host room =
+    rw request-undamaged (go (done (requestAnswer (w .bridge .configured) (sizeOf (w .memory)) (wire 0x40 0x01 place start n) (length host) room)))
+  where
+    go : (t : Bool) → made (cond t Nothing Nothing) (w .bridge) ≡ w .bridge
+    go true = refl
+    go false = refl
+
+pub status-keeps : StatusKeeps rules
+unfolding step change
+status-keeps w room a = rw a ((refl, refl, refl), refl, refl)
 
 pub zeros-are-told : ZerosAreTold rules
 unfolding step change requestOf requestAnswer

@@ -11,9 +11,8 @@ use lib.Dec.{eqb, ltb}
 use borrow.Author.Tests.{eqb-true, eqb-false, eq-eqb, lt-ltb, le-ltb, le-leb}
 use Rattle.rules.specs.declared.Direction.{Direction}
 use Rattle.rules.specs.declared.Direction.the-variants.{Out, In}
-use Rattle.rules.specs.declared.Phase.the-variants.{Busy}
 use Rattle.rules.specs.Words.{byte, bit, bitOf, one}
-use Rattle.rules.specs.Held.{World, world, inPhase}
+use Rattle.rules.specs.Held.{World, world}
 use Rattle.rules.specs.Changes.{made}
 use Rattle.rules.specs.Packets.{commandTaken, inward, statusPacket, commandOf, blockOf, directionOf, signatureOf, valid, meaningful, recognised, recognises}
 use Rattle.rules.specs.Operations.{Operation, codes, action, selected, content, operationsOf}
@@ -91,26 +90,26 @@ status-read-back tag residue status t r = rw (rejoins tag t, rejoins residue r)
 
 -- ---- accepted
 
--- a block's operations are at most eleven
-codes-length : (os : List Operation) → length (codes os) ≡ length os
+-- a block's operations are one to eleven
+pub codes-length : (os : List Operation) → length (codes os) ≡ length os
 codes-length [] = refl
 codes-length (o ∷ os) = ap suc (codes-length os)
 
-operations-most : (block : List ℕ) (l : ℕ) (d : Direction) → length (operationsOf block l d) ≤ 11
-operations-most block l d = go (eqb (bitOf 0 (action block)) 1) refl
+pub operations-count : (block : List ℕ) (l : ℕ) (d : Direction) → (1 ≤ length (operationsOf block l d)) × (length (operationsOf block l d) ≤ 11)
+operations-count block l d = go (eqb (bitOf 0 (action block)) 1) refl
   where
-    go : (t : Bool) → eqb (bitOf 0 (action block)) 1 ≡ t → length (operationsOf block l d) ≤ 11
-    go true e = let h = counted block l d .0 (eqb-true _ 1 e) .1 in omega arith
-    go false e = counted block l d .1 (omega (arith, eqb-false (bitOf 0 (action block)) 1 e)) .1
+    go : (t : Bool) → eqb (bitOf 0 (action block)) 1 ≡ t → (1 ≤ length (operationsOf block l d)) × (length (operationsOf block l d) ≤ 11)
+    go true e = let h = counted block l d .0 (eqb-true _ 1 e) in (omega (arith, h .0), omega (arith, h .1))
+    go false e = let h = counted block l d .1 (omega (arith, eqb-false (bitOf 0 (action block)) 1 e)) in (omega (arith, h .0), h .1)
 
-needed-most : (signature : ℕ) (p : List ℕ) → length (operationsFor signature p) ≤ 11
+pub needed-most : (signature : ℕ) (p : List ℕ) → length (operationsFor signature p) ≤ 11
 needed-most signature p = go (recognises signature p)
   where
     made : List Operation
     made = operationsOf (blockOf p) (commandOf p .length) (directionOf (commandOf p))
 
     go : (t : Bool) → length (cond t (codes made) []) ≤ 11
-    go true = rw codes-length (operations-most (blockOf p) (commandOf p .length) (directionOf (commandOf p)))
+    go true = rw codes-length (operations-count (blockOf p) (commandOf p .length) (directionOf (commandOf p)) .1)
     go false = omega arith
 
 -- a free bridge accepts what is valid and meaningful
@@ -183,11 +182,8 @@ pub packet-leaves : (w : World) (p : List ℕ) (room : ℕ) → step w (Packet p
 unfolding step change
 packet-leaves w p room a = rw a
 
-pub made-begins : (w : World) (tag l : ℕ) (d : Direction) (acts registers : ℕ → Bool) (count : ℕ) (contents : List ℕ) (room : ℕ)
-    → Free w → Askable acts l d → length contents ≡ 8 → 11 ≤ room
-    → step w (Packet (packet tag l d (passThrough (byte 0x04 (w .bytes)) acts registers count contents) []) room) .next
-    ≡ world (inPhase (Busy (cond (ltb 0 l) d Out) tag l) (w .bridge)) (w .bytes) (w .memory)
-made-begins w tag l d acts registers count contents room free askable eights r =
+pub made-is-begun : MadeIsBegun rules
+made-is-begun w tag l d acts registers count contents room free askable eights r =
     let signature : ℕ = byte 0x04 (w .bytes) in
     let b : List ℕ = passThrough signature acts registers count contents in
     let fills : Fills b [] = block-fills signature count l d acts registers contents eights askable in
@@ -198,7 +194,3 @@ made-begins w tag l d acts registers count contents room free askable eights r =
       joins tag,
       joins l,
     )
-
-pub made-is-begun : MadeIsBegun rules
-made-is-begun w tag l d acts registers count contents room free askable eights r =
-    ap (λ (w : World). w .bridge .phase) (made-begins w tag l d acts registers count contents room free askable eights r)

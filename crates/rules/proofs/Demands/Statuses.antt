@@ -1,6 +1,6 @@
 -- A status packet tells the tag and the residue of the command that it ends.
 use mathlib.Core.Path.{_≡_, refl, sym, ap, subst, _∙_}
-use mathlib.Core.Logic.{_⊎_, inl, inr}
+use mathlib.Core.Logic.{inl, inr}
 use mathlib.Core.Bool.{Bool, true, false, cond, not, _&&_, _||_}
 use mathlib.Core.List.{List, _++_}
 use Prim.Native.Nat.{ℕ, _-_, _^_, _<_, _≤_}
@@ -19,11 +19,11 @@ use Rattle.rules.specs.Packets.{recognised, recognises}
 use Rattle.rules.specs.Reports.{haltsPipe, directionNumber, hostNumber, mismatch}
 use Rattle.rules.specs.Answers.{statusAnswer}
 use Rattle.rules.specs.Step.{Packet, Report, StatusRequest, step, rules}
-use Rattle.rules.specs.Demands.Makers.{packet, Fills, takenApart, telling}
-use Rattle.rules.specs.Demands.Coherence.{ordering, reported, StatusIsTold, OtherIsFailed}
+use Rattle.rules.specs.Demands.Makers.{flagsFor, packet, Fills, Free, takenApart, telling}
+use Rattle.rules.specs.Demands.Coherence.{ordering, reported, StatusIsTold, Other, OtherIsFailed, OtherHalts}
 use Rattle.rules.proofs.Demands.Cases.{legal, report-taken}
-use Rattle.rules.proofs.Demands.Makers.{joins, direction-made, packet-leaves, made-is-accepted, made-begins, status-read-back}
-use Rattle.rules.proofs.Demands.Made.{recognised-has}
+use Rattle.rules.proofs.Demands.Makers.{joins, direction-made, packet-leaves, made-is-accepted, made-is-begun, status-read-back}
+use Rattle.rules.proofs.Demands.Packets.{recognised-has}
 use Rattle.rules.proofs.Demands.Coherence.{clear-clears}
 
 abbrev Tells : ℕ → ℕ → ℕ → World → Type 0
@@ -63,7 +63,7 @@ matches l d amount h = rw (le-ltb l amount h) (go (ltb 0 amount) refl)
     go false e = refl
 
 -- what an event that finishes a command leaves
-finishes : (t : Bool) (d : Direction) (b : Bridge) (p : Phase)
+pub finishes : (t : Bool) (d : Direction) (b : Bridge) (p : Phase)
     → (halting t d (inPhase p b) .configured ≡ b .configured) × (halting t d (inPhase p b) .phase ≡ p)
 finishes t Out b p = (refl, refl)
 finishes t In b p = (refl, refl)
@@ -89,20 +89,19 @@ status-is-told w tag l d acts registers count contents failed amount free t n as
     let m = legal (reported d) failed amount (direction .1) f (λ z. omega arith) in
     let left = report-taken busy host tag l (reported d) failed amount (free .configured) refl m .1 in
     subst (λ (x : World). Tells tag (l - amount) failed (step (step x (Report (reported d) failed amount) .next) (ordering 0x02 0x01 0 0x82) .next))
-    (sym (made-begins w tag l d acts registers count contents 11 free askable eights (omega arith)))
+    (sym (made-is-begun w tag l d acts registers count contents 11 free askable eights (omega arith)))
     (finished-told (step busy (Report (reported d) failed amount) .next) b (haltsPipe false l amount) host tag (l - amount) failed (free .configured)
     (rw (matches l d amount a) at left) t (omega arith))
 
 -- ---- any other command
 
 -- a block that is not sixteen bytes, or has another first or second byte, is not recognised
-unrecognised : (signature l : ℕ) (d : Direction) (block filling : List ℕ) → Fills block filling
-    → ((length block ≡ 16 → ⊥) ⊎ ((byte 0 block ≡ signature → ⊥) ⊎ (byte 1 block ≡ 0x24 → ⊥)))
+unrecognised : (signature l : ℕ) (d : Direction) (block filling : List ℕ) → Fills block filling → Other signature block
     → recognised signature (block ++ filling) (length block) l d ≡ false
 unrecognised signature l d block filling fills o = go (recognised signature (block ++ filling) (length block) l d) refl
   where
     refuted : (size : length block ≡ 16) → byte 0 (block ++ filling) ≡ signature → byte 1 (block ++ filling) ≡ 0x24
-        → ((length block ≡ 16 → ⊥) ⊎ ((byte 0 block ≡ signature → ⊥) ⊎ (byte 1 block ≡ 0x24 → ⊥))) → ⊥
+        → Other signature block → ⊥
     refuted size x y (inl h) = h size
     refuted size x y (inr (inl h)) = h (sym (List·getD-append block filling 0 0 (omega arith)) ∙ x)
     refuted size x y (inr (inr h)) = h (sym (List·getD-append block filling 0 1 (omega arith)) ∙ y)
@@ -111,12 +110,30 @@ unrecognised signature l d block filling fills o = go (recognised signature (blo
     go true e = let h = recognised-has signature l d (block ++ filling) (length block) e in absurd (refuted (h .0) (h .1) (h .2) o)
     go false e = refl
 
-pub other-is-failed : OtherIsFailed rules
-other-is-failed w tag l d block filling free t n fills o =
+-- it leaves its status waiting
+other-leaves : (w : World) (tag l : ℕ) (d : Direction) (block filling : List ℕ) → Free w → Fills block filling → Other (byte 0x04 (w .bytes)) block
+    → step w (Packet (packet tag l d block filling) 11) .next .bridge
+    ≡ halting (ltb 0 l) (cond (ltb 0 l) d Out) (inPhase (StatusWaiting tag l 1) (w .bridge))
+other-leaves w tag l d block filling free fills o =
     let p : List ℕ = packet tag l d block filling in
     let host : Direction = cond (ltb 0 l) d Out in
     let left = packet-leaves w p 11 (made-is-accepted w tag l d block filling 11 free fills (omega arith)) in
     let other : recognises (byte 0x04 (w .bytes)) p ≡ false =
     rw (direction-made tag l d block filling, joins l) (unrecognised (byte 0x04 (w .bytes)) l host block filling fills o) in
-    finished-told (step w (Packet p 11) .next) (w .bridge) (ltb 0 l) host tag l 1 (free .configured)
-    (ap (λ (w : World). w .bridge) left ∙ rw (other, direction-made tag l d block filling, joins tag, joins l)) t n
+    ap (λ (w : World). w .bridge) left ∙ rw (other, direction-made tag l d block filling, joins tag, joins l)
+
+pub other-is-failed : OtherIsFailed rules
+other-is-failed w tag l d block filling free t n fills o =
+    finished-told (step w (Packet (packet tag l d block filling) 11) .next) (w .bridge) (ltb 0 l) (cond (ltb 0 l) d Out) tag l 1 (free .configured)
+    (other-leaves w tag l d block filling free fills o) t n
+
+pub other-halts : OtherHalts rules
+other-halts w tag l d block filling free fills o =
+    rw (other-leaves w tag l d block filling free fills o) (go (ltb 0 l) d)
+  where
+    go : (t : Bool) (d : Direction)
+        → (let b = halting t (cond t d Out) (inPhase (StatusWaiting tag l 1) (w .bridge)) in
+        (b .halts .outward ≡ (t && eqb (flagsFor d) 0x00)) × (b .halts .inward ≡ ((t && eqb (flagsFor d) 0x80) || w .bridge .halts .inward)))
+    go true Out = (refl, refl)
+    go true In = (free .runs, refl)
+    go false d = (free .runs, refl)

@@ -7,14 +7,14 @@ use Prim.Native.Nat.{ℕ, zero, suc, _+_, _-_, _*_, _/_, _%_, _<_, _≤_}
 use native.Mathlib.Omega.{arith}
 use lib.ListN.{length, take, drop}
 use lib.Dec.{eqb, leb, ltb}
-use borrow.Author.Tests.{eqb-true, leb-true, eq-eqb, ne-eqb, lt-ltb, le-ltb, le-leb, not-false}
+use borrow.Author.Tests.{ltb-true, eqb-true, leb-true, eq-eqb, ne-eqb, lt-ltb, le-ltb, le-leb, not-false}
 use Rattle.rules.specs.Words.{over}
 use Rattle.rules.specs.Held.{World, world, sizeOf}
 use Rattle.rules.specs.Requests.{requestOf, inBytes, inMemory, address, atEight, onePage, storeOf}
 use Rattle.rules.specs.Answers.{requestAnswer}
 use Rattle.rules.specs.Step.{Control, change, step, rules}
 use Rattle.rules.specs.Demands.Requests.{wire}
-use Rattle.rules.specs.Demands.Coherence.{asking, Replies, rowOf, ThereIsRead, WrittenIsRead, WritableIsWritten, WrittenWasWritable}
+use Rattle.rules.specs.Demands.Coherence.{ReadWasThere, asking, Replies, rowOf, ThereIsRead, WrittenIsRead, WritableIsWritten, WrittenWasWritable}
 use Rattle.rules.proofs.Checks.{request-passed}
 use Rattle.rules.proofs.Demands.Requests.{whole}
 use Rattle.rules.proofs.Replies.{inside}
@@ -23,7 +23,7 @@ use Rattle.rules.proofs.Rows.{over-length}
 -- ---- reads
 
 -- a right address of a fitted place is read
-reads : (w : World) (place start n : ℕ) → w .bridge .configured ≡ true → (inBytes place || inMemory place) ≡ true
+pub reads : (w : World) (place start n : ℕ) → w .bridge .configured ≡ true → (inBytes place || inMemory place) ≡ true
     → (inMemory place && eqb (sizeOf (w .memory)) 0) ≡ false → address false (sizeOf (w .memory)) place start n ≡ true
     → Replies (step w (asking 0xC0 0x02 place start n)) (take n (drop start (storeOf place w)))
 unfolding step change requestOf requestAnswer
@@ -31,12 +31,33 @@ reads w place start n c p f a = rw (c, whole place, whole start, whole n, p, f, 
 
 pub there-is-read : ThereIsRead rules
 unfolding address
-there-is-read w start n c some = (
-  λ l. reads w 0x0000 start n c refl refl (rw (le-leb 0 start (omega arith), le-leb start 15 (omega arith), le-leb (start + n) 16 l)),
-  λ l.
+there-is-read w start n c = (
+  λ k l. reads w 0x0000 start n c refl refl (rw (le-leb 0 start (omega arith), le-leb start 15 (omega arith), le-leb (start + n) 16 l)),
+  λ k l.
       reads w 0x0002 start n c refl (ne-eqb (sizeOf (w .memory)) 0 (λ z. omega arith))
-      (rw (lt-ltb start (sizeOf (w .memory)) (omega arith), le-leb (start + n) (sizeOf (w .memory)) l)),
+      (rw (lt-ltb start (sizeOf (w .memory)) k, le-leb (start + n) (sizeOf (w .memory)) l)),
 )
+
+pub read-was-there : ReadWasThere rules
+unfolding step requestOf address
+read-was-there w place start n host room a =
+    let k = request-passed (w .bridge .configured) (sizeOf (w .memory)) (wire 0xC0 0x02 place start n) (length host) room a in
+    let p = rw (whole place, whole start, whole n) at (k .1 .1 .1) in
+    go (inMemory place) refl (not-false _ (p .0)) (not-false _ (p .1 .1 .0))
+  where
+    m : ℕ
+    m = sizeOf (w .memory)
+
+    go : (t : Bool) → inMemory place ≡ t → (inBytes place || t) ≡ true
+        → cond t (ltb start m && leb (start + n) m) (leb 0 start && leb start 15 && leb (start + n) 16) ≡ true
+        → ((place ≡ 0x0000) × (start < 16) × (start + n ≤ 16)) ⊎ ((place ≡ 0x0002) × (start < m) × (start + n ≤ m))
+    go true e p i =
+        let b = and-eq-true-iff (ltb start m) (leb (start + n) m) .0 i in
+        inr (eqb-true place 2 e, ltb-true start m (b .0), leb-true (start + n) m (b .1))
+    go false e p i =
+        let b = and-eq-true-iff (leb 0 start && leb start 15) (leb (start + n) 16) .0 i in
+        let c = leb-true start 15 (and-eq-true-iff (leb 0 start) (leb start 15) .0 (b .0) .1) in
+        inl (eqb-true place 0 (rw or-false at p), omega arith, leb-true (start + n) 16 (b .1))
 
 -- ---- writes
 
@@ -49,6 +70,11 @@ over-read (r ∷ row) zero (x ∷ xs) h = ap (λ (l : List ℕ). x ∷ l) (over-
 over-read [] (suc at) [] h = refl
 over-read [] (suc at) (x ∷ xs) h = absurd (omega arith)
 over-read (r ∷ row) (suc at) xs h = over-read row at xs (omega arith)
+
+-- what needs the configuration and is not refused for it is configured
+pub needed : (c : Bool) → (not c && true) ≡ false → c ≡ true
+needed true h = refl
+needed false h = absurd (true≢false h)
 
 -- an accepted write, by the numbers that its host gave
 record Wrote (w : World) (place start : ℕ) (host : List ℕ) (room : ℕ) : Type 0 where
@@ -78,13 +104,9 @@ wrote w place start host room a =
       page = p .1 .1 .1 .1 .1 .1 .0;
       next = rw (a, whole place, whole start);
     }
-  where
-    needed : (c : Bool) → (not c && true) ≡ false → c ≡ true
-    needed true h = refl
-    needed false h = absurd (true≢false h)
 
 -- a place that may be written may be read
-readable : (m place start n : ℕ) → address true m place start n ≡ true → address false m place start n ≡ true
+pub readable : (m place start n : ℕ) → address true m place start n ≡ true → address false m place start n ≡ true
 unfolding address
 readable m place start n a = go (inMemory place) a
   where
@@ -121,7 +143,7 @@ written-is-read w place start host room sixteen a = rw (k .next) (go (inMemory p
         (r .0, r .1 ∙ rw e (over-read (w .bytes) start host (rw e at fits)))
 
 -- a write is accepted where no check of its place applies
-writes : (w : World) (place start : ℕ) (host : List ℕ) → w .bridge .configured ≡ true → (inBytes place || inMemory place) ≡ true
+pub writes : (w : World) (place start : ℕ) (host : List ℕ) → w .bridge .configured ≡ true → (inBytes place || inMemory place) ≡ true
     → (inMemory place && eqb (sizeOf (w .memory)) 0) ≡ false → address true (sizeOf (w .memory)) place start (length host) ≡ true
     → (inMemory place && not (atEight start)) ≡ false → (inMemory place && not (onePage start (length host))) ≡ false
     → step w (Control (wire 0x40 0x01 place start (length host)) host 0) .answer ≡ 0

@@ -1,15 +1,15 @@
 -- BOT's thirteen cases (BOT 6.7), as a table that does not mention the report rule.
 use mathlib.Core.Path.{_≡_}
-use mathlib.Core.Bool.{Bool, true, false, cond, _&&_}
+use mathlib.Core.Bool.{Bool, true, false, cond, _&&_, _||_}
 use mathlib.Core.List.{List, [], _∷_}
 use Prim.Native.Nat.{ℕ, _+_, _-_, _≤_}
 use lib.Dec.{eqb, ltb}
 use Rattle.rules.specs.declared.Bridge.{Bridge}
 use Rattle.rules.specs.declared.Direction.{Direction}
 use Rattle.rules.specs.declared.Direction.the-variants.{Out, In}
+use Rattle.rules.specs.declared.Halts.{Halts}
 use Rattle.rules.specs.declared.Phase.the-variants.{Busy, StatusWaiting}
 use Rattle.rules.specs.Words.{one}
-use Rattle.rules.specs.Held.{inPhase, halting}
 use Rattle.rules.specs.Step.{Report, Machine}
 
 -- data goes no way, in, or out
@@ -99,10 +99,19 @@ abbrev pub fitting : ℕ → Direction → ℕ → ℕ → List Case → ℕ
 fitting l host direction amount [] = 0
 fitting l host direction amount (c ∷ cs) = one (fallsUnder l host direction amount c) + fitting l host direction amount cs
 
+-- the pipe that data goes by is halted too, if told so
+abbrev pub alsoHalted : Bool → Way → Halts → Halts
+alsoHalted halts way h =
+    record { outward = (halts && sameWay way Outwards) || h .outward; inward = (halts && sameWay way Inwards) || h .inward }
+
 -- the bridge that a case leaves
 abbrev pub caseLeaves : Case → Direction → ℕ → ℕ → ℕ → ℕ → Bridge → Bridge
 caseLeaves c host tag l failed amount b =
-    halting (c .halts) host (inPhase (StatusWaiting tag ((c .residue) l amount) (cond (c .own) failed 2)) b)
+    record {
+      configured = b .configured;
+      phase = StatusWaiting tag ((c .residue) l amount) (cond (c .own) failed 2);
+      halts = alsoHalted (c .halts) (wayOf host) (b .halts);
+    }
 
 abbrev pub Each : (Case → Type 0) → List Case → Type 0
 Each P [] = Unit {0}

@@ -1,11 +1,11 @@
 -- What a host sees holds together: one event tells what another left, done or refused.
 use mathlib.Core.Path.{_≡_}
 use mathlib.Core.Logic.{_⊎_}
-use mathlib.Core.Bool.{Bool, true, false, cond, _&&_}
+use mathlib.Core.Bool.{Bool, true, false, cond, _&&_, _||_}
 use mathlib.Core.List.{List, [], _∷_}
 use Prim.Native.Nat.{ℕ, _+_, _-_, _*_, _^_, _<_, _≤_, min}
 use lib.ListN.{length, take, drop, replicate}
-use lib.Dec.{eqb}
+use lib.Dec.{eqb, ltb}
 use Rattle.rules.specs.declared.Direction.{Direction}
 use Rattle.rules.specs.declared.Direction.the-variants.{Out, In}
 use Rattle.rules.specs.declared.Phase.the-variants.{Awaiting}
@@ -14,7 +14,7 @@ use Rattle.rules.specs.Held.{World, world, isStopped}
 use Rattle.rules.specs.Step.{Event, BusReset, Control, Packet, Report, StatusRequest, Outcome, Machine, after, reached, done}
 use Rattle.rules.specs.Demands.Refusals.{damages}
 use Rattle.rules.specs.Demands.Requests.{wire}
-use Rattle.rules.specs.Demands.Makers.{packet, Fills, passThrough, Askable, takenApart, telling, Free}
+use Rattle.rules.specs.Demands.Makers.{flagsFor, packet, Fills, passThrough, Askable, takenApart, telling, Free}
 
 -- a request that asks for n bytes and is lent room for them, and one that moves none
 abbrev pub asking : ℕ → ℕ → ℕ → ℕ → ℕ → Event
@@ -85,14 +85,15 @@ HaltsAreTold m =
     → Replies (m .takes s (asking 0x82 0x00 0 0x01 2)) (one (eqb (m .takes s (Packet p room) .answer) 11) ∷ 0 ∷ [])
     × Replies (m .takes s (asking 0x82 0x00 0 0x82 2)) (one (eqb (m .takes s (StatusRequest room) .answer) 11) ∷ 0 ∷ [])
 
--- A damaged packet leaves both pipes halted, and both refuse.
+-- A damaged packet leaves both pipes halted, and both refuse; no report is awaited.
 abbrev pub DamageHalts : Machine → Type 0
 DamageHalts m =
     (s : m .State) (damaged p : List ℕ) (room : ℕ) → damages (m .takes s (Packet damaged room) .answer) ≡ true
     → (let stopped : m .State = m .takes s (Packet damaged room) .next in
     (m .takes stopped (Packet p room) .answer ≡ 11) × (m .takes stopped (StatusRequest room) .answer ≡ 11)
     × Replies (m .takes stopped (asking 0x82 0x00 0 0x01 2)) (1 ∷ 0 ∷ [])
-    × Replies (m .takes stopped (asking 0x82 0x00 0 0x82 2)) (1 ∷ 0 ∷ []))
+    × Replies (m .takes stopped (asking 0x82 0x00 0 0x82 2)) (1 ∷ 0 ∷ [])
+    × ((direction failed amount : ℕ) → m .takes stopped (Report direction failed amount) .answer ≡ 16))
 
 -- all but the phase and the halts, and all but the halts, are as before
 abbrev pub Keeps : World → World → Type 0
@@ -126,11 +127,35 @@ ResetsAgree m =
 
 -- ---- replies
 
+-- Only a packet hands out operations, and only a control request and a status request a reply.
+abbrev pub HandsOnly : {State : Type 0} → Event → Outcome State → Type 0
+HandsOnly BusReset o = (o .reply ≡ []) × (o .operations ≡ [])
+HandsOnly (Control setup host room) o = o .operations ≡ []
+HandsOnly (Packet p room) o = o .reply ≡ []
+HandsOnly (Report direction failed amount) o = (o .reply ≡ []) × (o .operations ≡ [])
+HandsOnly (StatusRequest room) o = o .operations ≡ []
+
+abbrev pub HandsOutItsOwn : Machine → Type 0
+HandsOutItsOwn m = (s : m .State) (e : Event) → HandsOnly e (m .takes s e)
+
 -- A request that asks changes nothing.
 abbrev pub AskingChangesNothing : Machine → Type 0
 AskingChangesNothing m =
     (s : m .State) (setup host : List ℕ) (room : ℕ) → 0x80 ≤ byte 0 setup
     → m .shows (m .takes s (Control setup host room) .next) ≡ m .shows s
+
+-- A vendor write changes nothing of the bridge.
+abbrev pub WritingKeepsBridge : Machine → Type 0
+WritingKeepsBridge m =
+    (s : m .State) (place start n : ℕ) (host : List ℕ) (room : ℕ)
+    → m .shows (m .takes s (Control (wire 0x40 0x01 place start n) host room) .next) .bridge ≡ m .shows s .bridge
+
+-- A status packet that is handed out leaves the bridge awaiting, and changes nothing else.
+abbrev pub StatusKeeps : Machine → Type 0
+StatusKeeps m =
+    (s : m .State) (room : ℕ) → m .takes s (StatusRequest room) .answer ≡ 0
+    → (let next = m .shows (m .takes s (StatusRequest room) .next) in
+    Keeps (m .shows s) next × (next .bridge .phase ≡ Awaiting) × (next .bridge .halts ≡ m .shows s .bridge .halts))
 
 -- BOGUS_READ replies wLength zeros, Get Max LUN one.
 abbrev pub ZerosAreTold : Machine → Type 0
@@ -143,10 +168,17 @@ ZerosAreTold m =
 -- Bytes that are there are read: of the sixteen, and of the first 2,048 of the memory.
 abbrev pub ThereIsRead : Machine → Type 0
 ThereIsRead m =
-    (s : m .State) (start n : ℕ) → m .shows s .bridge .configured ≡ true → 0 < n
-    → (start + n ≤ 16 → Replies (m .takes s (asking 0xC0 0x02 0x0000 start n)) (take n (drop start (m .shows s .bytes))))
-    × (start + n ≤ min (length (m .shows s .memory)) 2048
-    → Replies (m .takes s (asking 0xC0 0x02 0x0002 start n)) (take n (drop start (m .shows s .memory))))
+    (s : m .State) (start n : ℕ) → m .shows s .bridge .configured ≡ true
+    → (let size : ℕ = min (length (m .shows s .memory)) 2048 in
+    (start < 16 → start + n ≤ 16 → Replies (m .takes s (asking 0xC0 0x02 0x0000 start n)) (take n (drop start (m .shows s .bytes))))
+    × (start < size → start + n ≤ size → Replies (m .takes s (asking 0xC0 0x02 0x0002 start n)) (take n (drop start (m .shows s .memory)))))
+
+-- .. and what is read is there, though it be none.
+abbrev pub ReadWasThere : Machine → Type 0
+ReadWasThere m =
+    (s : m .State) (place start n : ℕ) (host : List ℕ) (room : ℕ) → m .takes s (Control (wire 0xC0 0x02 place start n) host room) .answer ≡ 0
+    → (let size : ℕ = min (length (m .shows s .memory)) 2048 in
+    ((place ≡ 0x0000) × (start < 16) × (start + n ≤ 16)) ⊎ ((place ≡ 0x0002) × (start < size) × (start + n ≤ size)))
 
 -- Bytes that were written are the bytes that are read.
 abbrev pub WrittenIsRead : Machine → Type 0
@@ -195,11 +227,48 @@ StatusIsTold m =
     let status = statusTaken m s (Packet p 11 ∷ Report (reported d) failed amount ∷ []) in
     (status .answer ≡ 0) × (takenApart (status .reply) ≡ telling tag (l - amount) failed))
 
--- That of any other command tells its tag, all of L, and that it failed: its block is not sixteen bytes, or has another first or second byte.
+-- a block that is not sixteen bytes, or has another first or second byte
+abbrev pub Other : ℕ → List ℕ → Type 0
+Other signature block = (length block ≡ 16 → ⊥) ⊎ ((byte 0 block ≡ signature → ⊥) ⊎ (byte 1 block ≡ 0x24 → ⊥))
+
+-- That of any other command tells its tag, all of L, and that it failed.
 abbrev pub OtherIsFailed : Machine → Type 0
 OtherIsFailed m =
     (s : m .State) (tag l : ℕ) (d : Direction) (block filling : List ℕ)
-    → Free (m .shows s) → tag < 2 ^ 32 → l < 2 ^ 32 → Fills block filling
-    → ((length block ≡ 16 → ⊥) ⊎ ((byte 0 block ≡ byte 0x04 (m .shows s .bytes) → ⊥) ⊎ (byte 1 block ≡ 0x24 → ⊥)))
+    → Free (m .shows s) → tag < 2 ^ 32 → l < 2 ^ 32 → Fills block filling → Other (byte 0x04 (m .shows s .bytes)) block
     → (let status = statusTaken m s (Packet (packet tag l d block filling) 11 ∷ []) in
     (status .answer ≡ 0) × (takenApart (status .reply) ≡ telling tag l 1))
+
+-- .. and halts the pipe of its direction, if it has one; the other stays.
+abbrev pub OtherHalts : Machine → Type 0
+OtherHalts m =
+    (s : m .State) (tag l : ℕ) (d : Direction) (block filling : List ℕ)
+    → Free (m .shows s) → Fills block filling → Other (byte 0x04 (m .shows s .bytes)) block
+    → (let left = m .shows (m .takes s (Packet (packet tag l d block filling) 11) .next) .bridge .halts in
+    (left .outward ≡ (ltb 0 l && eqb (flagsFor d) 0x00))
+    × (left .inward ≡ ((ltb 0 l && eqb (flagsFor d) 0x80) || m .shows s .bridge .halts .inward)))
+
+-- ---- turns
+
+-- none of these is accepted
+abbrev pub NoPacket : (m : Machine) → m .State → Type 0
+NoPacket m s = (p : List ℕ) (room : ℕ) → m .takes s (Packet p room) .answer ≡ 0 → ⊥
+
+abbrev pub NoReport : (m : Machine) → m .State → Type 0
+NoReport m s = (direction failed amount : ℕ) → m .takes s (Report direction failed amount) .answer ≡ 0 → ⊥
+
+abbrev pub NoStatus : (m : Machine) → m .State → Type 0
+NoStatus m s = (room : ℕ) → m .takes s (StatusRequest room) .answer ≡ 0 → ⊥
+
+-- Packet, report and status request take turns: behind a packet with operations comes a report, behind one without and behind a report a status
+-- request, behind that a packet.
+abbrev pub TakesTurns : Machine → Type 0
+TakesTurns m =
+    (s : m .State)
+    → ((p : List ℕ) (room : ℕ) → (let o : Outcome (m .State) = m .takes s (Packet p room) in
+    o .answer ≡ 0
+    → NoPacket m (o .next) × (o .operations ≡ [] → NoReport m (o .next)) × ((o .operations ≡ [] → ⊥) → NoStatus m (o .next))))
+    × ((direction failed amount : ℕ) → (let o : Outcome (m .State) = m .takes s (Report direction failed amount) in
+    o .answer ≡ 0 → NoPacket m (o .next) × NoReport m (o .next)))
+    × ((room : ℕ) → (let o : Outcome (m .State) = m .takes s (StatusRequest room) in
+    o .answer ≡ 0 → NoReport m (o .next) × NoStatus m (o .next)))

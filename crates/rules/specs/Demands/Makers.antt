@@ -14,7 +14,7 @@ use Rattle.rules.specs.declared.Phase.the-variants.{Awaiting, Busy}
 use Rattle.rules.specs.declared.Request.{Request}
 use Rattle.rules.specs.declared.Request.the-variants.{SetConfiguration, GetConfiguration, ClearFeature, GetStatus, GetMaxLun, MassStorageReset, LoadConfigData, ReadConfigData, SoftReset, BogusRead}
 use Rattle.rules.specs.Words.{byte, bit, one}
-use Rattle.rules.specs.Held.{World}
+use Rattle.rules.specs.Held.{World, world, inPhase}
 use Rattle.rules.specs.Requests.{Named, Known}
 use Rattle.rules.specs.Step.{Control, Packet, Machine}
 use Rattle.rules.specs.Demands.Requests.{wire}
@@ -114,13 +114,15 @@ MadeIsAccepted m =
     (s : m .State) (tag l : ℕ) (d : Direction) (block filling : List ℕ) (room : ℕ)
     → Free (m .shows s) → Fills block filling → 11 ≤ room → m .takes s (Packet (packet tag l d block filling) room) .answer ≡ 0
 
--- A made pass-through block with the bridge's signature is begun, with the packet's tag and length, and in its direction if there is one.
+-- A made pass-through block with the bridge's signature is begun, with the packet's tag and length, and in its direction if there is one; nothing else
+-- changes.
 abbrev pub MadeIsBegun : Machine → Type 0
 MadeIsBegun m =
     (s : m .State) (tag l : ℕ) (d : Direction) (action registers : ℕ → Bool) (count : ℕ) (contents : List ℕ) (room : ℕ)
     → Free (m .shows s) → Askable action l d → length contents ≡ 8 → 11 ≤ room
     → (let p = packet tag l d (passThrough (byte 0x04 (m .shows s .bytes)) action registers count contents) [] in
-    m .shows (m .takes s (Packet p room) .next) .bridge .phase ≡ Busy (cond (ltb 0 l) d Out) tag l)
+    m .shows (m .takes s (Packet p room) .next)
+    ≡ world (inPhase (Busy (cond (ltb 0 l) d Out) tag l) (m .shows s .bridge)) (m .shows s .bytes) (m .shows s .memory))
 
 -- ---- what is accepted was made so
 

@@ -49,7 +49,7 @@ rewired setup h n =
     high : (k : ℕ) → byte (k + 1) setup ≡ word k setup / 256
     high k = omega (arith, h k)
 
-one-of : (x m n : ℕ) → (eqb x m || eqb x n) ≡ true → (x ≡ m) ⊎ (x ≡ n)
+pub one-of : (x m n : ℕ) → (eqb x m || eqb x n) ≡ true → (x ≡ m) ⊎ (x ≡ n)
 one-of x m n h = go (eqb x m) refl (eqb x n) refl h
   where
     go : (t : Bool) → eqb x m ≡ t → (u : Bool) → eqb x n ≡ u → (t || u) ≡ true → (x ≡ m) ⊎ (x ≡ n)

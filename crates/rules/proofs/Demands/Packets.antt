@@ -1,6 +1,5 @@
 -- A packet that is accepted was made by a host, and so was the block of one that makes operations.
 use mathlib.Core.Path.{_≡_, refl, sym, ap, _∙_}
-use mathlib.Core.Logic.{_⊎_, inl, inr}
 use mathlib.Core.Bool.{Bool, true, false, cond, not, _&&_, _||_, false≢true, and-eq-true-iff}
 use mathlib.Core.List.{List, [], _∷_, _++_}
 use Prim.Native.Nat.{ℕ, _+_, _*_, _/_, _%_, _<_, _≤_}
@@ -12,7 +11,7 @@ use lib.Dec.{eqb, leb, ltb}
 use borrow.Author.Tests.{eqb-true, eqb-false, leb-true, not-true, not-false}
 use Rattle.rules.specs.declared.Direction.{Direction}
 use Rattle.rules.specs.declared.Direction.the-variants.{Out, In}
-use Rattle.rules.specs.Words.{byte, long, bit, bitOf, one, Check, _if_, first}
+use Rattle.rules.specs.Words.{byte, long, bit, bitOf, one, Check, first}
 use Rattle.rules.specs.Held.{World}
 use Rattle.rules.specs.Changes.{made}
 use Rattle.rules.specs.Packets.{inward, readable, commandOf, blockOf, directionOf, signatureOf, valid, meaningful, recognised, recognises}
@@ -21,7 +20,7 @@ use Rattle.rules.specs.Answers.{packetChecks, packetAnswer}
 use Rattle.rules.specs.Step.{Packet, operationsFor, answer, done, step, rules}
 use Rattle.rules.specs.Demands.WellFormed.{Bytes}
 use Rattle.rules.specs.Demands.Makers.{wrapper, BegunWasMade, AcceptedWasMade, LaidOut, DamageIsTold, four, flagsFor, packet, Fills, eight, passThrough}
-use Rattle.rules.proofs.Checks.{answer-has, decides, passed}
+use Rattle.rules.proofs.Checks.{decides, sole, passed}
 use Rattle.rules.proofs.Rows.{in-parts}
 
 -- four bytes are the four of their number
@@ -63,19 +62,11 @@ damage-is-told w p room h = (
   λ a.
       let made = valid-made p h (not-false (valid p) (decides 14 checks a .1 .1 .1 .0)) in
       (long 4 p, long 8 p, byte 12 p, byte 13 p, byte 14 p, blockOf p, rw (length-drop, made .0), made .1),
-  λ a l. broken l (decides 13 checks a .1 .1 .1),
+  λ a l. false≢true (rw (laid-out-valid p l) at (sole 13 (not (valid p)) (drop 4 checks) refl (decides 13 checks a .1 .1 .1))),
 )
   where
-    needed : ℕ
-    needed = length (operationsFor (signatureOf (w .bytes)) p)
-
     checks : List Check
-    checks = packetChecks (w .bridge) p needed room
-
-    broken : LaidOut p → (not (valid p) ≡ true) ⊎ (first (14 if not (meaningful (commandOf p)) ∷ 15 if ltb room needed ∷ []) ≡ 13) → ⊥
-    broken l (inl v) = false≢true (rw (laid-out-valid p l) at v)
-    broken l (inr k) =
-        false≢true (rw k at (answer-has (λ n. not (eqb n 13)) (14 if not (meaningful (commandOf p)) ∷ 15 if ltb room needed ∷ []) refl))
+    checks = packetChecks (w .bridge) p (length (operationsFor (signatureOf (w .bytes)) p)) room
 
 -- what an accepted packet has passed
 packet-passed : (w : World) (p : List ℕ) (room : ℕ) → step w (Packet p room) .answer ≡ 0 → (valid p ≡ true) × (meaningful (commandOf p) ≡ true)
@@ -190,7 +181,7 @@ block-made block signature h n e f g i j =
     contents = sym (take-append-drop 8 (drop 5 block)) ∙ ap (λ (l : List ℕ). take 8 (drop 5 block) ++ l) (drop-drop 8 5 block ∙ tail)
 
 -- a packet that makes operations is accepted and recognised
-begun : (w : World) (p : List ℕ) (room : ℕ) → (step w (Packet p room) .operations ≡ [] → ⊥)
+pub begun : (w : World) (p : List ℕ) (room : ℕ) → (step w (Packet p room) .operations ≡ [] → ⊥)
     → (step w (Packet p room) .answer ≡ 0) × (recognises (signatureOf (w .bytes)) p ≡ true)
 unfolding step
 begun w p room h = go (done (answer w (Packet p room))) refl (recognises (signatureOf (w .bytes)) p) refl h
