@@ -45,6 +45,7 @@ pub record Learnt : Type 0 where
 abbrev pub learnt : ℕ → List ℕ → Learnt
 learnt returned room = record { returned = returned; room = room }
 
+-- an image and a memory
 abbrev pub Parts : Type 0
 Parts = List ℕ × List ℕ
 
@@ -63,7 +64,7 @@ learns s (c ∷ cs) = learnt (calling s c .returned) (calling s c .room) ∷ lea
 abbrev pub partsSince : List ℕ → List Call → Parts
 partsSince memory cs = partsAfter (powered, memory) cs
 
--- the world that an image and a memory stand for
+-- the world that they stand for
 abbrev pub standsFor : Parts → World
 standsFor s = worldOf (s .0) (s .1)
 
