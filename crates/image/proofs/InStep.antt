@@ -2,8 +2,7 @@
 use mathlib.Core.Path.{_≡_, refl, sym, ap, subst}
 use mathlib.Core.Bool.{true, false}
 use mathlib.Core.List.{List, [], _∷_, _++_}
-use Prim.Native.Nat.{ℕ, zero, suc, _+_, _*_, _/_, _%_, _^_, _<_}
-use native.Mathlib.Nat.{div-div-eq-div-mul}
+use Prim.Native.Nat.{ℕ, zero, suc, _+_}
 use native.Mathlib.Omega.{arith}
 use lib.ListN.{length, drop, drop-of-length-le}
 use lib.Seq.{drop-cons}
@@ -14,6 +13,7 @@ use Rattle.rules.specs.Words.{byte, over}
 use Rattle.rules.specs.Held.{world}
 use Rattle.rules.specs.Changes.{made}
 use Rattle.rules.specs.Demands.Sizes.{Sized}
+use Rattle.rules.proofs.Rows.{four-bytes}
 use Rattle.image.specs.Image.{decode, worldOf, put, PowersOn, InStep}
 
 pub powers-on : PowersOn
@@ -32,10 +32,6 @@ row-drops k (suc n) s h = rw (drop-cons s k 0 (omega arith)) (ap (λ (l : List �
 -- what holds of its bytes in a row holds of it
 by-bytes : (n : ℕ) (s : List ℕ) → length s ≡ n → (F : List ℕ → Type 0) → F (row 0 n s) → F s
 by-bytes n s h F = subst F (row-drops 0 n s (omega arith))
-
--- a 32-bit number from its bytes
-four-bytes : (n : ℕ) → n < 2 ^ 32 → n % 256 + 256 * (n / 256 % 256) + 65536 * (n / 65536 % 256 + 256 * (n / 16777216 % 256)) ≡ n
-four-bytes n h = rw (← div-div-eq-div-mul n 256 256, ← div-div-eq-div-mul n 65536 256, ← div-div-eq-div-mul n 256 256) (omega arith)
 
 -- ---- a change, put into an image whose configuration bytes were written
 

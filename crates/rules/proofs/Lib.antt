@@ -1,5 +1,6 @@
 pub mod Checks
 pub mod Rows
+pub mod Changes
 pub mod Promises
 pub mod Replies
 pub mod Unique

@@ -1,4 +1,4 @@
--- An accepted request's reply is wLength bytes, so there is room for it; and a read or a write lies in its place.
+-- An accepted request's reply is wLength bytes, so there is room for it; and a read lies in its place.
 use mathlib.Core.Path.{_≡_, refl}
 use mathlib.Core.Bool.{Bool, true, false, cond, _&&_, and-eq-true-iff}
 use mathlib.Core.List.{List}
@@ -13,7 +13,7 @@ use Rattle.rules.specs.declared.Setup.{Setup}
 use Rattle.rules.specs.Held.{World, sizeOf}
 use Rattle.rules.specs.Requests.{Named, Unknown, Known, isUnknown, table, setupOf, requestOf, inMemory, address, returned, storeOf, replyTo, replies}
 use Rattle.rules.specs.Answers.{requestAnswer}
-use Rattle.rules.proofs.Checks.{EachRow, _also_, request-each, request-passed, accepted-write}
+use Rattle.rules.proofs.Checks.{EachRow, _also_, request-each, request-passed}
 
 -- the request that a setup makes, Unknown aside, replies what wLength says
 request-replies : (s : Setup) → isUnknown (requestOf s) ≡ false → returned s ≡ replies (requestOf s) s
@@ -54,11 +54,6 @@ module _ (w : World) (setup : List ℕ) (host room : ℕ) (sixteen : length (w .
     (accepted : requestAnswer (w .bridge .configured) (sizeOf (w .memory)) setup host room ≡ 0) where
   abbrev s : Setup
   s = setupOf setup
-
-  pub write-inside : requestOf s ≡ Known LoadConfigData → (s .index + s .length ≤ length (storeOf (s .value) w)) × (host ≡ s .length)
-  write-inside e =
-      let p = accepted-write (w .bridge .configured) (sizeOf (w .memory)) setup host room e accepted in
-      (inside true w (s .value) (s .index) (s .length) sixteen (p .1), p .2)
 
   pub read-inside : requestOf s ≡ Known ReadConfigData → s .index + s .length ≤ length (storeOf (s .value) w)
   read-inside e =

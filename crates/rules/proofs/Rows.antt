@@ -1,8 +1,8 @@
--- Laws of a row with another over it: how long it is, where all of it fits at the front, and how a loop puts it there; and of a row byte by byte.
+-- Laws of a row with another over it: how long it is, where all of it fits at the front, and how a loop puts it there; and of numbers and rows byte by byte.
 use mathlib.Core.Path.{_≡_, refl, ap, _∙_}
 use mathlib.Core.List.{List, [], _∷_}
-use Prim.Native.Nat.{ℕ, zero, suc, _+_, _-_, _≤_, min}
-use native.Mathlib.Nat.{zero-add, suc-add}
+use Prim.Native.Nat.{ℕ, zero, suc, _+_, _-_, _*_, _/_, _%_, _^_, _<_, _≤_, min}
+use native.Mathlib.Nat.{zero-add, suc-add, div-div-eq-div-mul}
 use native.Mathlib.Omega.{arith}
 use lib.ListN.{length, drop}
 use lib.Seq.{drop-cons, paste, paste-zero}
@@ -33,6 +33,10 @@ over-pastes (r ∷ row) zero (x ∷ xs) n e =
     rw (z, zero-add) (ap (λ (l : List ℕ). x ∷ l) (rw zero-add at (over-pastes row zero xs (n - 1) (omega arith))))
 over-pastes [] (suc at) xs n e = let z : n ≡ 0 = omega arith in rw z (paste-zero [] (suc at) xs)
 over-pastes (r ∷ row) (suc at) xs n e = rw suc-add (ap (λ (l : List ℕ). r ∷ l) (over-pastes row at xs n (omega arith)))
+
+-- a number of 32 bits from its four bytes
+pub four-bytes : (n : ℕ) → n < 2 ^ 32 → n % 256 + 256 * (n / 256 % 256) + 65536 * (n / 65536 % 256 + 256 * (n / 16777216 % 256)) ≡ n
+four-bytes n h = rw (← div-div-eq-div-mul n 256 256, ← div-div-eq-div-mul n 65536 256, ← div-div-eq-div-mul n 256 256) (omega arith)
 
 -- n bytes from k on, and the rest
 abbrev pub parts : ℕ → ℕ → List ℕ → List ℕ

@@ -1,4 +1,4 @@
--- The demands and the paper's promises, each as a property of a machine. proofs/Demands shows that `step` has them all.
+-- The demands and the paper's promises, each as a property of a machine. proofs/Demands shows that `rules` has them all.
 pub mod Refusals
 pub mod Requests
 pub mod Operations

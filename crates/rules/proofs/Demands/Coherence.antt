@@ -1,6 +1,6 @@
 -- Configuration, pipes and replies hold together.
 use mathlib.Core.Path.{_≡_, refl, sym, ap, _∙_}
-use mathlib.Core.Bool.{Bool, true, false, cond, not, _&&_, _||_, true≢false, false≢true, and-false}
+use mathlib.Core.Bool.{Bool, true, false, cond, not, _||_, true≢false, false≢true, and-false}
 use mathlib.Core.List.{List, [], _∷_}
 use Prim.Native.Nat.{ℕ, _≤_}
 use native.Mathlib.Omega.{arith}
@@ -11,7 +11,6 @@ use Rattle.rules.specs.declared.Bridge.{Bridge}
 use Rattle.rules.specs.declared.Change.{Change}
 use Rattle.rules.specs.declared.Change.the-variants.{Nothing, Sets, Awaits, Begins, Finishes, Stops, Notes, Clears, Ends}
 use Rattle.rules.specs.declared.CommandPacket.{CommandPacket}
-use Rattle.rules.specs.declared.Direction.{Direction}
 use Rattle.rules.specs.declared.Direction.the-variants.{Out, In}
 use Rattle.rules.specs.declared.Phase.{Phase}
 use Rattle.rules.specs.declared.Phase.the-variants.{Awaiting, Busy, StatusWaiting, Stopped}
@@ -19,19 +18,20 @@ use Rattle.rules.specs.declared.Request.{Request}
 use Rattle.rules.specs.declared.Request.the-variants.{LoadConfigData}
 use Rattle.rules.specs.declared.Setup.{Setup}
 use Rattle.rules.specs.Words.{one, Check, first}
-use Rattle.rules.specs.Held.{World, world, powered, configuration, sizeOf, bulkOut, isStopped}
+use Rattle.rules.specs.Held.{World, world, powered, configuration, sizeOf, isStopped}
 use Rattle.rules.specs.Changes.{made}
-use Rattle.rules.specs.Stopping.{clears, clearsPipe, clearFeature, massStorageReset, softReset}
+use Rattle.rules.specs.Stopping.{clears, clearFeature, massStorageReset, softReset}
 use Rattle.rules.specs.Requests.{Known, table, address, setupOf, requestOf, isA, changeBy, bytesAfter, memoryAfter}
 use Rattle.rules.specs.Packets.{commandOf, signatureOf, recognises, commandTaken}
 use Rattle.rules.specs.Reports.{reportTaken}
 use Rattle.rules.specs.Answers.{requestAnswer, packetChecks, packetAnswer, reportAnswer, statusChecks, statusAnswer}
 use Rattle.rules.specs.Step.{operationsFor, Event, BusReset, Control, Packet, Report, StatusRequest, answer, done, damaged, changeDone, change, step, rules, after}
 use Rattle.rules.specs.Demands.Refusals.{damages}
-use Rattle.rules.specs.Demands.Requests.{wire}
-use Rattle.rules.specs.Demands.Coherence.{asking, Replies, setsTo, configured, ConfigurationIsTold, BusResetIsPowerOn, ConfigurationRestarts, PowerOnIsRead, HaltsAreTold, DamageHalts, ClearClears, ResetsAgree, HandsOutItsOwn, AskingChangesNothing, WritingKeepsBridge, StatusKeeps, ZerosAreTold}
+use Rattle.rules.specs.Demands.Requests.{wire, asking}
+use Rattle.rules.specs.Demands.Coherence.{Replies, setsTo, configured, ConfigurationIsTold, BusResetIsPowerOn, ConfigurationRestarts, PowerOnIsRead, HaltsAreTold, DamageHalts, ClearClears, ResetsAgree, HandsOutItsOwn, AskingChangesNothing, WritingKeepsBridge, StatusKeeps, ZerosAreTold}
 use Rattle.rules.proofs.Demands.Boundary.{none-given}
 use Rattle.rules.proofs.Demands.Refusals.{refusals}
+use Rattle.rules.proofs.Changes.{either, feature}
 use Rattle.rules.proofs.Demands.Requests.{whole}
 use Rattle.rules.proofs.Checks.{allNumbers, answer-has, EachRow, _also_, request-each, request-passed, request-undamaged}
 
@@ -62,20 +62,6 @@ kept (Clears Out) b u = refl
 kept (Clears In) b u = refl
 kept Ends b u = refl
 
-either : (t : Bool) (c d : Change) → Unset c → Unset d → Unset (cond t c d)
-either true c d u v = u
-either false c d u v = v
-
-clear-unset : (p : Phase) (d : Direction) (other : Bool) → Unset (clearsPipe p d other)
-clear-unset p d other =
-    either (clears p) (cond (isStopped p && not other) Ends (Clears d)) Nothing (either (isStopped p && not other) Ends (Clears d) tt tt) tt
-
-feature-unset : (index : ℕ) (b : Bridge) → Unset (clearFeature index b)
-feature-unset index b =
-    either (eqb index bulkOut) (clearsPipe (b .phase) Out (b .halts .inward)) (clearsPipe (b .phase) In (b .halts .outward))
-    (clear-unset (b .phase) Out (b .halts .inward))
-    (clear-unset (b .phase) In (b .halts .outward))
-
 command-unset : (t : Bool) (c : CommandPacket) → Unset (commandTaken t c)
 command-unset true c = tt
 command-unset false c = tt
@@ -94,13 +80,13 @@ request-sets : (setup : List ℕ) (b : Bridge) → EachRow (SetsConfiguration se
 request-sets setup b =
     (λ h. rw (h .kind, h .code) (two-or-none (h .value)))
     also (λ h. rw (h .kind))
-    also (λ h. rw (h .kind) (held (clearFeature (s .index) b) (feature-unset (s .index) b)))
+    also (λ h. rw (h .kind) (held (clearFeature (s .index) b) (feature Unset tt (λ d. tt) tt (s .index) b)))
     also (λ h. rw (h .kind))
     also (λ h. rw (h .kind))
-    also (λ h. rw (h .kind) (held (massStorageReset (b .phase)) (either (isStopped (b .phase)) Notes Awaits tt tt)))
+    also (λ h. rw (h .kind) (held (massStorageReset (b .phase)) (either Unset (isStopped (b .phase)) Notes Awaits tt tt)))
     also (λ h. rw (h .kind))
     also (λ h. rw (h .kind))
-    also (λ h. rw (h .kind) (held (softReset (b .phase)) (either (isStopped (b .phase)) Nothing Awaits tt tt)))
+    also (λ h. rw (h .kind) (held (softReset (b .phase)) (either Unset (isStopped (b .phase)) Nothing Awaits tt tt)))
     also (λ h. rw (h .kind))
     also tt
   where
@@ -131,7 +117,7 @@ event-keeps w e u k =
     rw k
     (ap (λ (t : Bool). cond t 2 0)
     (kept (change w e) (w .bridge)
-    (either (done n) (changeDone w e) (cond (damaged n) Stops Nothing) u (either (damaged n) Stops Nothing tt tt)))
+    (either Unset (done n) (changeDone w e) (cond (damaged n) Stops Nothing) u (either Unset (damaged n) Stops Nothing tt tt)))
     ∙ same (done n) (configuration (w .bridge)))
 
 event-sets : (w : World) (e : Event)

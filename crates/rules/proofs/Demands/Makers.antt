@@ -19,6 +19,7 @@ use Rattle.rules.specs.Operations.{Operation, codes, action, selected, c
 use Rattle.rules.specs.Answers.{packetAnswer}
 use Rattle.rules.specs.Step.{Packet, operationsFor, answer, change, step, rules}
 use Rattle.rules.specs.Demands.Makers.{Askable, MadeIsBegun, flagsFor, packet, Fills, Free, eight, passThrough, PacketReadBack, BlockReadBack, StatusReadBack, MadeIsAccepted}
+use Rattle.rules.proofs.Rows.{four-bytes}
 use Rattle.rules.proofs.Demands.Operations.{counted}
 
 -- ---- read back
@@ -77,13 +78,9 @@ block-read-back signature count acts registers contents k eights h = (
       ∙ List·getD-append contents (0 ∷ 0 ∷ 0 ∷ []) 0 k (omega arith),
 )
 
--- the rules' four bytes of a number of 32 bits join to it
+-- .. as a host joins them
 rejoins : (n : ℕ) → n < 2 ^ 32 → n % 256 + 256 * (n / 256 % 256 + 256 * (n / 65536 % 256 + 256 * (n / 16777216 % 256))) ≡ n
-rejoins n h =
-    let e : n / 65536 ≡ n / 256 / 256 = omega arith in
-    let f : n / 16777216 ≡ n / 256 / 256 / 256 = omega arith in
-    let g : n / 256 / 256 / 256 % 256 ≡ n / 256 / 256 / 256 = omega arith in
-    rw (e, f, g) (omega arith)
+rejoins n h = omega (arith, four-bytes n h)
 
 pub status-read-back : StatusReadBack statusPacket
 status-read-back tag residue status t r = rw (rejoins tag t, rejoins residue r)

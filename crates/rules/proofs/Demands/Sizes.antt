@@ -1,32 +1,26 @@
 -- Every change of an event whose packet is bytes has numbers of 32 bits; so has the bridge after any history of them.
-use mathlib.Core.Bool.{Bool, true, false, cond, not, _&&_}
+use mathlib.Core.Bool.{Bool, true, false}
 use mathlib.Core.List.{List, [], _∷_}
 use Prim.Native.Nat.{ℕ, _+_, _^_, _<_}
 use native.Mathlib.Omega.{arith}
-use lib.Dec.{eqb}
 use Rattle.rules.specs.declared.Bridge.{Bridge}
 use Rattle.rules.specs.declared.Change.{Change}
 use Rattle.rules.specs.declared.Change.the-variants.{Nothing, Sets, Awaits, Begins, Finishes, Stops, Notes, Clears, Ends}
-use Rattle.rules.specs.declared.Direction.{Direction}
 use Rattle.rules.specs.declared.Direction.the-variants.{Out, In}
 use Rattle.rules.specs.declared.Phase.{Phase}
 use Rattle.rules.specs.declared.Phase.the-variants.{Awaiting, Busy, StatusWaiting, Stopped}
 use Rattle.rules.specs.declared.Request.the-variants.{SetConfiguration, GetConfiguration, ClearFeature, GetStatus, GetMaxLun, MassStorageReset, LoadConfigData, ReadConfigData, SoftReset, BogusRead}
 use Rattle.rules.specs.declared.Setup.{Setup}
 use Rattle.rules.specs.Words.{long}
-use Rattle.rules.specs.Held.{World, powered, bulkOut, isStopped}
+use Rattle.rules.specs.Held.{World, powered, isStopped}
 use Rattle.rules.specs.Changes.{made}
-use Rattle.rules.specs.Stopping.{clears, clearsPipe}
 use Rattle.rules.specs.Requests.{Named, Unknown, Known, setupOf, requestOf, changeBy}
 use Rattle.rules.specs.Packets.{commandOf, signatureOf, recognises, commandTaken}
 use Rattle.rules.specs.Reports.{mismatch, residueOf, reportTaken}
 use Rattle.rules.specs.Step.{Event, BusReset, Control, Packet, Report, StatusRequest, answer, done, damaged, changeDone, change, step, rules, after}
 use Rattle.rules.specs.Demands.WellFormed.{Bytes}
 use Rattle.rules.specs.Demands.Sizes.{OfBytes, AllOfBytes, Numbers, Sized, StaysSized}
-
-either : (t : Bool) (c d : Change) → Sized c → Sized d → Sized (cond t c d)
-either true c d z y = z
-either false c d z y = y
+use Rattle.rules.proofs.Changes.{either, feature}
 
 -- four bytes are a number of 32 bits
 long-sized : (p : List ℕ) → Bytes p → (k : ℕ) → long k p < 2 ^ 32
@@ -46,20 +40,16 @@ report direction failed amount (Busy host tag l) n = (n .0, residue-sized (misma
 report direction failed amount (StatusWaiting tag residue status) n = tt
 report direction failed amount (Stopped reset) n = tt
 
-clear : (p : Phase) (d : Direction) (other : Bool) → Sized (clearsPipe p d other)
-clear p d other = either (clears p) _ Nothing (either (isStopped p && not other) Ends (Clears d) tt tt) tt
-
 request : (r : Named) (s : Setup) (b : Bridge) → Sized (changeBy r s b)
 request (Known SetConfiguration) s b = tt
 request (Known GetConfiguration) s b = tt
-request (Known ClearFeature) s b =
-    either (eqb (s .index) bulkOut) _ _ (clear (b .phase) Out (b .halts .inward)) (clear (b .phase) In (b .halts .outward))
+request (Known ClearFeature) s b = feature Sized tt (λ d. tt) tt (s .index) b
 request (Known GetStatus) s b = tt
 request (Known GetMaxLun) s b = tt
-request (Known MassStorageReset) s b = either (isStopped (b .phase)) Notes Awaits tt tt
+request (Known MassStorageReset) s b = either Sized (isStopped (b .phase)) Notes Awaits tt tt
 request (Known LoadConfigData) s b = tt
 request (Known ReadConfigData) s b = tt
-request (Known SoftReset) s b = either (isStopped (b .phase)) Nothing Awaits tt tt
+request (Known SoftReset) s b = either Sized (isStopped (b .phase)) Nothing Awaits tt tt
 request (Known BogusRead) s b = tt
 request Unknown s b = tt
 
@@ -72,7 +62,7 @@ taken w (StatusRequest room) n h = tt
 
 pub sized : (w : World) (e : Event) → Numbers (w .bridge .phase) → OfBytes e → Sized (change w e)
 unfolding change
-sized w e n h = either (done (answer w e)) (changeDone w e) _ (taken w e n h) (either (damaged (answer w e)) Stops Nothing tt tt)
+sized w e n h = either Sized (done (answer w e)) (changeDone w e) _ (taken w e n h) (either Sized (damaged (answer w e)) Stops Nothing tt tt)
 
 -- ---- what a change leaves
 

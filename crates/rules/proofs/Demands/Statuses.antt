@@ -19,8 +19,9 @@ use Rattle.rules.specs.Packets.{recognised, recognises}
 use Rattle.rules.specs.Reports.{haltsPipe, directionNumber, hostNumber, mismatch}
 use Rattle.rules.specs.Answers.{statusAnswer}
 use Rattle.rules.specs.Step.{Packet, Report, StatusRequest, step, rules}
+use Rattle.rules.specs.Demands.Requests.{ordering}
 use Rattle.rules.specs.Demands.Makers.{flagsFor, packet, Fills, Free, takenApart, telling}
-use Rattle.rules.specs.Demands.Coherence.{ordering, reported, StatusIsTold, Other, OtherIsFailed, OtherHalts}
+use Rattle.rules.specs.Demands.Coherence.{reported, StatusIsTold, Other, OtherIsFailed, OtherHalts}
 use Rattle.rules.proofs.Demands.Cases.{legal, report-taken}
 use Rattle.rules.proofs.Demands.Makers.{joins, direction-made, packet-leaves, made-is-accepted, made-is-begun, status-read-back}
 use Rattle.rules.proofs.Demands.Packets.{recognised-has}

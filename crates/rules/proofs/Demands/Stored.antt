@@ -13,8 +13,8 @@ use Rattle.rules.specs.Held.{World, world, sizeOf}
 use Rattle.rules.specs.Requests.{requestOf, inBytes, inMemory, address, atEight, onePage, storeOf}
 use Rattle.rules.specs.Answers.{requestAnswer}
 use Rattle.rules.specs.Step.{Control, change, step, rules}
-use Rattle.rules.specs.Demands.Requests.{wire}
-use Rattle.rules.specs.Demands.Coherence.{ReadWasThere, asking, Replies, rowOf, ThereIsRead, WrittenIsRead, WritableIsWritten, WrittenWasWritable}
+use Rattle.rules.specs.Demands.Requests.{wire, asking}
+use Rattle.rules.specs.Demands.Coherence.{ReadWasThere, Replies, rowOf, ThereIsRead, WrittenIsRead, WritableIsWritten, WrittenWasWritable}
 use Rattle.rules.proofs.Checks.{request-passed}
 use Rattle.rules.proofs.Demands.Requests.{whole}
 use Rattle.rules.proofs.Replies.{inside}

@@ -10,6 +10,7 @@ use Rattle.rules.specs.Words.{byte}
 use Rattle.rules.specs.Held.{World, world, bulkOut, bulkIn, inPhase, halted}
 use Rattle.rules.specs.Requests.{Named, Unknown, setupOf, requestOf, isA}
 use Rattle.rules.specs.Demands.Refusals.{damages as isDamage}
+use Rattle.rules.specs.Demands.Requests.{ordering}
 use Rattle.rules.specs.Step.{Event, BusReset, Control, Packet, Report, StatusRequest, Outcome, Machine, after, reached, done}
 
 -- "the bridge is configured and awaits a command, with neither bulk pipe halted"
@@ -115,11 +116,8 @@ NoEndWithoutReset m =
 
 -- ---- BOT's reset recovery ends every stop, whichever pipe is cleared first.
 
-abbrev pub request : ℕ → ℕ → ℕ → Event
-request kind code index = Control (kind ∷ code ∷ 0 ∷ 0 ∷ index ∷ 0 ∷ 0 ∷ 0 ∷ []) [] 0
-
 abbrev pub recovery : ℕ → ℕ → List Event
-recovery first second = request 0x21 0xFF 0 ∷ request 0x02 0x01 first ∷ request 0x02 0x01 second ∷ []
+recovery first second = ordering 0x21 0xFF 0 0 ∷ ordering 0x02 0x01 0 first ∷ ordering 0x02 0x01 0 second ∷ []
 
 abbrev pub Recovery : Machine → Type 0
 Recovery m =

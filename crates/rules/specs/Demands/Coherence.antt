@@ -13,15 +13,8 @@ use Rattle.rules.specs.Words.{byte, word, one}
 use Rattle.rules.specs.Held.{World, world, isStopped}
 use Rattle.rules.specs.Step.{Event, BusReset, Control, Packet, Report, StatusRequest, Outcome, Machine, after, reached, done}
 use Rattle.rules.specs.Demands.Refusals.{damages}
-use Rattle.rules.specs.Demands.Requests.{wire}
+use Rattle.rules.specs.Demands.Requests.{wire, asking, ordering}
 use Rattle.rules.specs.Demands.Makers.{flagsFor, packet, Fills, passThrough, Askable, takenApart, telling, Free}
-
--- a request that asks for n bytes and is lent room for them, and one that moves none
-abbrev pub asking : ℕ → ℕ → ℕ → ℕ → ℕ → Event
-asking kind code value index n = Control (wire kind code value index n) [] n
-
-abbrev pub ordering : ℕ → ℕ → ℕ → ℕ → Event
-ordering kind code value index = Control (wire kind code value index 0) [] 0
 
 -- an event is answered 0 with these bytes
 abbrev pub Replies : {State : Type 0} → Outcome State → List ℕ → Type 0

@@ -9,13 +9,13 @@ use Rattle.rules.specs.declared.Phase.{Phase}
 use Rattle.rules.specs.declared.Phase.the-variants.{Awaiting, Busy, StatusWaiting, Stopped}
 use Rattle.rules.specs.Held.{World, bulkOut, bulkIn}
 use Rattle.rules.specs.Step.{Event, Control, Packet, Report, StatusRequest, Outcome, Machine, after, reached}
-use Rattle.rules.specs.Demands.Requests.{wire}
+use Rattle.rules.specs.Demands.Requests.{wire, ordering}
 use Rattle.rules.specs.Demands.Boundary.{unbroken, boundary, keptWrites}
 
 -- ---- how the events of the examples are written
 
 abbrev pub configure : Event
-configure = Control (wire 0x00 0x09 2 0 0) [] 0
+configure = ordering 0x00 0x09 2 0
 
 -- LOAD_CONFIG_DATA of n bytes
 abbrev pub write : ℕ → ℕ → ℕ → Event
@@ -98,10 +98,10 @@ Examples m = right m table ≡ true
 -- one pipe, a second reset, the same pipe again, none of them the boundary; then the other pipe, which is; and the next command is done.
 
 abbrev pub clear : ℕ → Event
-clear pipe = Control (wire 0x02 0x01 0 pipe 0) [] 0
+clear pipe = ordering 0x02 0x01 0 pipe
 
 abbrev pub reset : Event
-reset = Control (wire 0x21 0xFF 0 0 0) [] 0
+reset = ordering 0x21 0xFF 0 0
 
 abbrev pub since : List Event
 since =

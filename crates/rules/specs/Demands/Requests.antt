@@ -19,6 +19,13 @@ WholeFields read =
     (kind code value index n : ℕ) → value < 65536 → index < 65536 → n < 65536
     → read (wire kind code value index n) ≡ record { kind = kind; code = code; value = value; index = index; length = n }
 
+-- a request that asks for n bytes and is lent room for them, and one that moves none
+abbrev pub asking : ℕ → ℕ → ℕ → ℕ → ℕ → Event
+asking kind code value index n = Control (wire kind code value index n) [] n
+
+abbrev pub ordering : ℕ → ℕ → ℕ → ℕ → Event
+ordering kind code value index = Control (wire kind code value index 0) [] 0
+
 -- "4: configuration is 0 and the event is a command packet, report or status request, or a request whose type field says class or vendor or
 -- whose recipient is an endpoint", and no earlier check applies
 abbrev pub Guarded : Event → Type 0
