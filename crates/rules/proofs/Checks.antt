@@ -7,13 +7,15 @@ use Prim.Native.Nat.{ℕ}
 use lib.Dec.{eqb, ltb}
 use lib.ListN.{length}
 use borrow.Author.Tests.{eq-eqb, eqb-true, eqb-false, not-true, not-false}
-use Rattle.rules.specs.declared.Request.{Request}
 use Rattle.rules.specs.declared.Request.the-variants.{LoadConfigData}
+use Rattle.rules.specs.declared.Seen.{Seen}
 use Rattle.rules.specs.declared.Setup.{Setup}
+use Rattle.rules.specs.declared.Stands.the-variants.{InRoom}
 use Rattle.rules.specs.Words.{Check, first}
+use Rattle.rules.specs.Held.{World, sizeOf}
 use Rattle.rules.specs.Requests.{Named, Unknown, Known, isUnknown, Row, table, fits, lookup, setupOf, requestOf, isA, inBytes, inMemory, address, sent}
 use Rattle.rules.specs.Answers.{requestChecks, requestAnswer}
-use Rattle.rules.specs.Step.{damaged}
+use Rattle.rules.specs.Step.{Event, BusReset, Control, Packet, Report, StatusRequest, answer, stands, done, damaged}
 
 -- what is picked by a test has a property that both have
 picked : {A : Type 0} (has : A → Bool) (t : Bool) (x y : A) → (t ≡ true → has x ≡ true) → has y ≡ true → has (cond t x y) ≡ true
@@ -87,12 +89,11 @@ first-append (c ∷ cs) ds n = go (c .applies) (eqb (c .number) 0) refl n (first
     go false false e n ih = ih n
 
 -- no control request is answered 13 or 14
-pub request-undamaged : (configured : Bool) (m : ℕ) (setup : List ℕ) (host room : ℕ)
-    → damaged (requestAnswer configured m setup host room) ≡ false
+pub request-undamaged : (seen : Seen) (memory setup : List ℕ) (host room : ℕ) → damaged (requestAnswer seen memory setup host room) ≡ false
 unfolding requestAnswer
-request-undamaged configured m setup host room =
+request-undamaged seen memory setup host room =
     not-true _
-    (answer-has (λ n. not (damaged n)) (requestChecks configured m (length setup) (setupOf setup) (requestOf (setupOf setup)) host room) refl)
+    (answer-has (λ n. not (damaged n)) (requestChecks seen memory (length setup) (setupOf setup) (requestOf (setupOf setup)) host room) refl)
 
 -- the fields of a setup that fits a row
 pub record Fits (r : Row) (s : Setup) : Type 0 where
@@ -113,7 +114,7 @@ fitted r s f =
 -- Unknown, and the request of every row whose kind and code pass a test, have a property
 abbrev pub allRows : (ℕ → ℕ → Bool) → (Named → Bool) → List Row → Bool
 allRows test has [] = has Unknown
-allRows test has (r ∷ rs) = (not (test (r .kind) (r .code)) || has (Known (r .names))) && allRows test has rs
+allRows test has (r ∷ rs) = (not (test (r .kind) (r .code)) || has (r .names)) && allRows test has rs
 
 -- a row that a setup fits passes every test of kind and code that the setup passes
 row-passes : (test : ℕ → ℕ → Bool) (r : Row) (s : Setup) → fits r s ≡ true → test (s .kind) (s .code) ≡ true
@@ -124,8 +125,8 @@ lookup-has : (test : ℕ → ℕ → Bool) (has : Named → Bool) (rs : List Row
     → allRows test has rs ≡ true → has (lookup rs s) ≡ true
 lookup-has test has [] s h k = k
 lookup-has test has (r ∷ rs) s h k =
-    let t = and-eq-true-iff (not (test (r .kind) (r .code)) || has (Known (r .names))) (allRows test has rs) .0 k in
-    picked has (fits r s) (Known (r .names)) (lookup rs s) (λ f. rw (row-passes test r s f h) at (t .0)) (lookup-has test has rs s h (t .1))
+    let t = and-eq-true-iff (not (test (r .kind) (r .code)) || has (r .names)) (allRows test has rs) .0 k in
+    picked has (fits r s) (r .names) (lookup rs s) (λ f. rw (row-passes test r s f h) at (t .0)) (lookup-has test has rs s h (t .1))
 
 -- so has the request that a setup makes, if its kind and code pass the test
 pub request-has : (test : ℕ → ℕ → Bool) (has : Named → Bool) (s : Setup) → test (s .kind) (s .code) ≡ true
@@ -134,7 +135,7 @@ unfolding requestOf
 request-has test has s = lookup-has test has table s
 
 -- what every row that a setup fits names has a property
-abbrev pub EachRow : (Request → Type 0) → Setup → List Row → Type 0
+abbrev pub EachRow : (Named → Type 0) → Setup → List Row → Type 0
 EachRow P s [] = Unit {0}
 EachRow P s (r ∷ rs) = (Fits r s → P (r .names)) × EachRow P s rs
 
@@ -143,29 +144,27 @@ infixr 20 _also_
 pub _also_ : {A B : Type 0} → A → B → A × B
 x also y = (x, y)
 
--- so has the request that it makes, if it makes one
-abbrev pub Makes : (Request → Type 0) → Named → Type 0
-Makes P q = (r : Request) × (q ≡ Known r) × P r
-
-lookup-each : (P : Request → Type 0) (s : Setup) (rs : List Row) → EachRow P s rs → isUnknown (lookup rs s) ≡ false → Makes P (lookup rs s)
+-- so has what it makes, if that is in the table
+lookup-each : (P : Named → Type 0) (s : Setup) (rs : List Row) → EachRow P s rs → isUnknown (lookup rs s) ≡ false → P (lookup rs s)
 lookup-each P s [] each u = absurd (true≢false u)
 lookup-each P s (r ∷ rs) each u = go (fits r s) refl u (lookup-each P s rs (each .1))
   where
-    go : (t : Bool) → fits r s ≡ t → isUnknown (cond t (Known (r .names)) (lookup rs s)) ≡ false
-        → (isUnknown (lookup rs s) ≡ false → Makes P (lookup rs s)) → Makes P (cond t (Known (r .names)) (lookup rs s))
-    go true e u ih = (r .names, refl, each .0 (fitted r s e))
+    go : (t : Bool) → fits r s ≡ t → isUnknown (cond t (r .names) (lookup rs s)) ≡ false
+        → (isUnknown (lookup rs s) ≡ false → P (lookup rs s)) → P (cond t (r .names) (lookup rs s))
+    go true e u ih = each .0 (fitted r s e)
     go false e u ih = ih u
 
-pub request-each : (P : Request → Type 0) (s : Setup) → EachRow P s table → isUnknown (requestOf s) ≡ false → Makes P (requestOf s)
+pub request-each : (P : Named → Type 0) (s : Setup) → EachRow P s table → isUnknown (requestOf s) ≡ false → P (requestOf s)
 unfolding requestOf
 request-each P s each u = lookup-each P s table each u
 
 -- ---- what an accepted request has passed
 
-pub request-passed : (c : Bool) (m : ℕ) (setup : List ℕ) (host room : ℕ) → requestAnswer c m setup host room ≡ 0
-    → Passed (requestChecks c m (length setup) (setupOf setup) (requestOf (setupOf setup)) host room)
+pub request-passed : (seen : Seen) (memory setup : List ℕ) (host room : ℕ) → requestAnswer seen memory setup host room ≡ 0
+    → Passed (requestChecks seen memory (length setup) (setupOf setup) (requestOf (setupOf setup)) host room)
 unfolding requestAnswer
-request-passed c m setup host room h = passed (requestChecks c m (length setup) (setupOf setup) (requestOf (setupOf setup)) host room) refl h
+request-passed seen memory setup host room h =
+    passed (requestChecks seen memory (length setup) (setupOf setup) (requestOf (setupOf setup)) host room) refl h
 
 -- LOAD_CONFIG_DATA goes out from the host
 load-goes-out : (s : Setup) → requestOf s ≡ Known LoadConfigData → ltb (s .kind) 0x80 ≡ true
@@ -177,15 +176,24 @@ load-goes-out s e = go (ltb (s .kind) 0x80) refl
         absurd (false≢true (rw e at (request-has (λ kind code. not (ltb kind 0x80)) (λ r. not (isA LoadConfigData r)) s (rw h) refl)))
 
 -- an accepted write has a place and a writable address, and the host has sent it whole
-pub accepted-write : (c : Bool) (m : ℕ) (setup : List ℕ) (host room : ℕ)
+pub accepted-write : (seen : Seen) (memory setup : List ℕ) (host room : ℕ)
     → (let s = setupOf setup in
-    requestOf s ≡ Known LoadConfigData → requestAnswer c m setup host room ≡ 0
-    → ((inBytes (s .value) || inMemory (s .value)) ≡ true) × (address true m (s .value) (s .index) (s .length) ≡ true) × (host ≡ s .length))
-accepted-write c m setup host room e z =
+    requestOf s ≡ Known LoadConfigData → requestAnswer seen memory setup host room ≡ 0
+    → ((inBytes (s .value) || inMemory (s .value)) ≡ true) × (address true (sizeOf memory) (s .value) (s .index) (s .length) ≡ true) × (host ≡ s .length))
+accepted-write seen memory setup host room e z =
     let s = setupOf setup in
-    let p = request-passed c m setup host room z in
-    let whole : host ≡ sent s = eqb-true host (sent s) (not-false _ (p .1 .1 .1 .1 .1 .1 .1 .1 .0)) in (
+    let p = request-passed seen memory setup host room z in
+    let whole : host ≡ sent s = eqb-true host (sent s) (not-false _ (p .1 .1 .1 .1 .1 .1 .1 .1 .1 .1 .1 .1 .0)) in (
       not-false _ (rw e at (p .1 .1 .1 .0)),
       not-false _ (rw e at (p .1 .1 .1 .1 .1 .0)),
       rw (load-goes-out s e) at whole,
     )
+
+-- ---- a refusal says nothing of the memory
+
+pub in-room : (w : World) (e : Event) → done (answer w e) ≡ false → stands w e ≡ InRoom
+in-room w BusReset d = refl
+in-room w (Control setup host room) d = rw d
+in-room w (Packet bytes room) d = refl
+in-room w (Report direction failed amount) d = refl
+in-room w (StatusRequest room) d = refl

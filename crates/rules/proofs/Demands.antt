@@ -18,3 +18,4 @@ pub mod Statuses
 pub mod Turns
 pub mod Mends
 pub mod Numbers
+pub mod Descriptors

@@ -12,15 +12,19 @@ use Rattle.rules.specs.declared.Change.the-variants.{Nothing, Sets, Awai
 use Rattle.rules.specs.declared.Direction.{Direction}
 use Rattle.rules.specs.declared.Phase.{Phase}
 use Rattle.rules.specs.declared.Phase.the-variants.{StatusWaiting}
+use Rattle.rules.specs.declared.Request.{Request}
 use Rattle.rules.specs.declared.Setup.{Setup}
+use Rattle.rules.specs.declared.Stands.the-variants.{InRoom, InMemory}
 use Rattle.rules.specs.Words.{laid}
-use Rattle.rules.specs.Held.{World, world, sizeOf}
-use Rattle.rules.specs.Requests.{Named, setupOf, requestOf, replyTo}
+use Rattle.rules.specs.Held.{World, world}
+use Rattle.rules.specs.Descriptors.{firstString, placeIn}
+use Rattle.rules.specs.Requests.{Known, Describes, setupOf, requestOf, replyTo}
 use Rattle.rules.specs.Packets.{commandOf, recognises, commandTaken, statusPacket}
 use Rattle.rules.specs.Reports.{hostNumber, mismatch, reportTaken}
-use Rattle.rules.specs.Answers.{requestAnswer, packetAnswer, reportAnswer, statusAnswer}
-use Rattle.rules.specs.Step.{Event, BusReset, Control, Packet, Report, StatusRequest, Outcome, operationsFor, answer, done, damaged, change, step}
-use Rattle.rules.specs.Promise.{left, handedOut, leaves, Told, ToldOf, served}
+use Rattle.rules.specs.Answers.{seenOf, requestAnswer, packetAnswer, reportAnswer, statusAnswer}
+use Rattle.rules.specs.Step.{Event, BusReset, Control, Packet, Report, StatusRequest, Outcome, operationsFor, answer, stands, done, damaged, change, step}
+use Rattle.rules.specs.Promise.{leftAt, left, handedOut, leaves, Told, ToldOf, served}
+use Rattle.rules.proofs.Checks.{in-room}
 use Rattle.rules.proofs.Rows.{over-laid}
 use Rattle.rules.proofs.Replies.{reply-count, reply-fits}
 
@@ -42,7 +46,7 @@ unfolding step change
 refusal w event room n a d =
     let e : Event = event (length room) in
     let z : handedOut e (step w e) ≡ [] = nothing e (step w e) (rw (a, d)) (rw (a, d)) in
-    rw (z, a, d)
+    rw (z, in-room w e (rw a d), a, d)
 
 pub reset-done : (b : Bridge) → Told b (λ n. BusReset) [] 0 0 (Sets false) []
 unfolding step change
@@ -50,23 +54,31 @@ reset-done b bytes memory = refl
 
 module _ (w : World) (setup host room : List ℕ) where
   abbrev pub controlAnswer : ℕ
-  controlAnswer = requestAnswer (w .bridge .configured) (sizeOf (w .memory)) setup (length host) (length room)
+  controlAnswer = requestAnswer (seenOf w) (w .memory) setup (length host) (length room)
 
   pub control-refused : (n : ℕ) → controlAnswer ≡ n → done n ≡ false
       → left n 0 (refused n) (w .bytes) (w .memory) room ≡ leaves w (Control setup host) room
   control-refused n a d = refusal w (Control setup host) room n a d
 
-  pub control-done : length (w .bytes) ≡ 16 → controlAnswer ≡ 0
-      → served (requestOf (setupOf setup)) (setupOf setup) host w room ≡ leaves w (Control setup host) room
+  pub control-done : (r : Request) → requestOf (setupOf setup) ≡ Known r → length (w .bytes) ≡ 16 → controlAnswer ≡ 0
+      → served r (setupOf setup) host w room ≡ leaves w (Control setup host) room
   unfolding step change
-  control-done sixteen a =
+  control-done r e sixteen a =
       let s : Setup = setupOf setup in
-      let r : Named = requestOf s in
       rw (
-        ← reply-count w setup (length host) (length room) sixteen a,
-        over-laid room (replyTo r s w) (reply-fits w setup (length host) (length room) sixteen a),
+        ← reply-count w setup (length host) (length room) sixteen a r e,
+        over-laid room (replyTo (Known r) s w) (reply-fits w setup (length host) (length room) sixteen a r e),
         a,
+        e,
       )
+
+  -- "The reply is a part of the lent memory itself, not a copy."
+  pub control-found : requestOf (setupOf setup) ≡ Describes → controlAnswer ≡ 0
+      → (let s : Setup = setupOf setup in
+      leftAt (InMemory (placeIn (w .bridge .dock) (firstString (w .bytes)) (s .value))) 0 (length (replyTo Describes s w)) Nothing (w .bytes) (w .memory) room
+      ≡ leaves w (Control setup host) room)
+  unfolding step change
+  control-found e a = rw (a, e)
 
 module _ (b : Bridge) (signature : ℕ) (p room : List ℕ) where
   abbrev needed : ℕ

@@ -1,11 +1,12 @@
--- Laws of a row with another over it: how long it is, where all of it fits at the front, and how a loop puts it there; and of numbers and rows byte by byte.
-use mathlib.Core.Path.{_≡_, refl, ap, _∙_}
-use mathlib.Core.List.{List, [], _∷_}
+-- Laws of a row with another over it: how long it is, where all of it fits at the front, and how a loop puts it there; of a part of a row's front; and of
+-- numbers and rows byte by byte.
+use mathlib.Core.Path.{_≡_, refl, sym, ap, _∙_}
+use mathlib.Core.List.{List, [], _∷_, _++_}
 use Prim.Native.Nat.{ℕ, zero, suc, _+_, _-_, _*_, _/_, _%_, _^_, _<_, _≤_, min}
 use native.Mathlib.Nat.{zero-add, suc-add, div-div-eq-div-mul}
 use native.Mathlib.Omega.{arith}
-use lib.ListN.{length, drop}
-use lib.Seq.{drop-cons, paste, paste-zero}
+use lib.ListN.{length, take, drop, length-drop, take-append-drop}
+use lib.Seq.{length-take-le, drop-cons, take-append-le, drop-append-le, paste, paste-zero}
 use Rattle.rules.specs.Words.{byte, laid, over}
 
 pub over-length : (row : List ℕ) (at : ℕ) (xs : List ℕ) → length (over row at xs) ≡ length row
@@ -37,6 +38,16 @@ over-pastes (r ∷ row) (suc at) xs n e = rw suc-add (ap (λ (l : List ℕ). r �
 -- a number of 32 bits from its four bytes
 pub four-bytes : (n : ℕ) → n < 2 ^ 32 → n % 256 + 256 * (n / 256 % 256) + 65536 * (n / 65536 % 256 + 256 * (n / 16777216 % 256)) ≡ n
 four-bytes n h = rw (← div-div-eq-div-mul n 256 256, ← div-div-eq-div-mul n 65536 256, ← div-div-eq-div-mul n 256 256) (omega arith)
+
+-- what lies in the front of a row is a part of the row
+pub part-of-front : (m k n : ℕ) (s : List ℕ) → m ≤ length s → k + n ≤ m → take n (drop k (take m s)) ≡ take n (drop k s)
+part-of-front m k n s h g =
+    let l : length (take m s) ≡ m = length-take-le m s h in
+    let parts : drop k (take m s ++ drop m s) ≡ drop k (take m s) ++ drop m s = drop-append-le k (take m s) (drop m s) (omega arith) in
+    sym
+    (ap (λ (x : List ℕ). take n (drop k x)) (sym (take-append-drop m s))
+    ∙ ap (take n) parts
+    ∙ take-append-le n (drop k (take m s)) (drop m s) (rw length-drop (omega arith)))
 
 -- n bytes from k on, and the rest
 abbrev pub parts : ℕ → ℕ → List ℕ → List ℕ

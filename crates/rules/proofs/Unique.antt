@@ -5,6 +5,8 @@ use Rattle.rules.proofs.Bridge.«power_on» as BridgePowerOn
 use Rattle.rules.proofs.«power_on_bytes» as PowerOnBytes
 use Rattle.rules.proofs.Direction.number as DirectionNumber
 use Rattle.rules.proofs.Direction.«is_in» as DirectionIsIn
+use Rattle.rules.proofs.addresses.StringIndex.address as StringIndexAddress
+use Rattle.rules.proofs.addresses.Address.number as AddressNumber
 
 -- a promise that is one equation leaves no second outcome
 pub only : {A : Type 0} {x y z : A} → x ≡ z → y ≡ z → x ≡ y
@@ -21,3 +23,9 @@ pub «Direction::number» : OneOutcome DirectionNumber.Kinds.ps DirectionNumber.
 
 pub «Direction::is_in» : OneOutcome DirectionIsIn.Kinds.ps DirectionIsIn.Kinds.r DirectionIsIn.Reads.Post
 «Direction::is_in» κs a r r' left left' p q = (only p q, refl)
+
+pub «StringIndex::address» : OneOutcome StringIndexAddress.Kinds.ps StringIndexAddress.Kinds.r StringIndexAddress.Reads.Post
+«StringIndex::address» κs a r r' left left' p q = (only p q, refl)
+
+pub «Address::number» : OneOutcome AddressNumber.Kinds.ps AddressNumber.Kinds.r AddressNumber.Reads.Post
+«Address::number» κs a r r' left left' p q = (only p q, refl)

@@ -6,10 +6,12 @@ use lib.ListN.{length}
 use lib.Dec.{eqb, ltb}
 use Rattle.rules.specs.declared.Bridge.{Bridge}
 use Rattle.rules.specs.declared.Request.the-variants.{LoadConfigData}
+use Rattle.rules.specs.declared.Seen.{Seen}
 use Rattle.rules.specs.declared.Setup.{Setup}
 use Rattle.rules.specs.Words.{Check, _if_, first}
-use Rattle.rules.specs.Held.{isAwaiting, isBusy, isStatusWaiting, isStopped}
-use Rattle.rules.specs.Requests.{Named, setupOf, requestOf, isA, isUnknown, hasPlace, needsConfiguration, inBytes, inMemory, address, atEight, onePage, sent, returned}
+use Rattle.rules.specs.Held.{World, sizeOf, fitted, isAwaiting, isBusy, isStatusWaiting, isStopped}
+use Rattle.rules.specs.Descriptors.{firstString, descriptorChecks}
+use Rattle.rules.specs.Requests.{Named, setupOf, requestOf, isA, isUnknown, describes, hasPlace, needsConfiguration, inBytes, inMemory, address, atEight, onePage, sent, returned}
 use Rattle.rules.specs.Packets.{statusLayout, commandOf, valid, meaningful}
 use Rattle.rules.specs.Reports.{malformed}
 
@@ -20,11 +22,11 @@ programChecks programs start n =
     10 if (programs && not (onePage start n)) ∷
     []
 
--- those of the two requests that have a place, of which one writes
-abbrev pub placeChecks : Bool → Bool → ℕ → ℕ → ℕ → ℕ → List Check
-placeChecks moves writes m place start n =
+-- those of the two requests that have a place, of which one writes; 7 is that of a request for a descriptor too
+abbrev pub placeChecks : Bool → Bool → Bool → ℕ → ℕ → ℕ → ℕ → List Check
+placeChecks finds moves writes m place start n =
     6 if (moves && not (inBytes place || inMemory place)) ∷
-    7 if (moves && inMemory place && eqb m 0) ∷
+    7 if ((finds || moves && inMemory place) && eqb m 0) ∷
     8 if (moves && not (address writes m place start n)) ∷
     programChecks (writes && inMemory place) start n
 
@@ -32,26 +34,36 @@ placeChecks moves writes m place start n =
 abbrev pub tableChecks : ℕ → Setup → Named → List Check
 tableChecks m s r =
     5 if isUnknown r ∷
-    placeChecks (hasPlace r) (isA LoadConfigData r) m (s .value) (s .index) (s .length)
+    placeChecks (describes r) (hasPlace r) (isA LoadConfigData r) m (s .value) (s .index) (s .length)
 
--- those of the data
-abbrev pub dataChecks : Setup → ℕ → ℕ → List Check
-dataChecks s host room =
+-- those of the data; of a descriptor "3 isn't given"
+abbrev pub dataChecks : Bool → Setup → ℕ → ℕ → List Check
+dataChecks found s host room =
     2 if not (eqb host (sent s)) ∷
-    3 if ltb room (returned s) ∷
+    3 if ltb room (returned found s) ∷
     []
 
--- "Order for requests: 1, 4, 5, 6, 7, 8, 9, 10, 2, 3."
-abbrev pub requestChecks : Bool → ℕ → ℕ → Setup → Named → ℕ → ℕ → List Check
-requestChecks configured m bytes s r host room =
-    1 if not (eqb bytes 8) ∷
-    4 if (not configured && needsConfiguration (s .kind)) ∷
-    tableChecks m s r ++ dataChecks s host room
+-- those that go by the request, and those of the data behind them
+abbrev pub namedChecks : Seen → List ℕ → Setup → Named → ℕ → ℕ → List Check
+namedChecks seen memory s r host room =
+    tableChecks (sizeOf memory) s r
+    ++ descriptorChecks (describes r) (seen .dock) (seen .«first_string») (fitted memory) (s .value)
+    ++ dataChecks (describes r) s host room
 
--- The answer to a request comes from the configuration, M, the setup, and how many bytes the host sent and there is room for.
-unfoldable pub requestAnswer : Bool → ℕ → List ℕ → ℕ → ℕ → ℕ
-requestAnswer configured m setup host room =
-    first (requestChecks configured m (length setup) (setupOf setup) (requestOf (setupOf setup)) host room)
+-- "Order for requests: 1, 4, 5, 6, 7, 8, 9, 10, 2, 3." For descriptors 18, 19, 18, 19 "after 5 and 7 .. then 2".
+abbrev pub requestChecks : Seen → List ℕ → ℕ → Setup → Named → ℕ → ℕ → List Check
+requestChecks seen memory bytes s r host room =
+    1 if not (eqb bytes 8) ∷
+    4 if (not (seen .configured) && needsConfiguration (s .kind)) ∷
+    namedChecks seen memory s r host room
+
+-- The answer to a request comes from what is seen of the bridge, the memory, the setup, and how many bytes the host sent and there is room for.
+unfoldable pub requestAnswer : Seen → List ℕ → List ℕ → ℕ → ℕ → ℕ
+requestAnswer seen memory setup host room =
+    first (requestChecks seen memory (length setup) (setupOf setup) (requestOf (setupOf setup)) host room)
+
+abbrev pub seenOf : World → Seen
+seenOf w = record { configured = w .bridge .configured; dock = w .bridge .dock; «first_string» = firstString (w .bytes) }
 
 -- "For packets: 4, 11, 16, 13, 14, 15." `needed` is how many operations the packet makes.
 abbrev pub packetChecks : Bridge → List ℕ → ℕ → ℕ → List Check

@@ -12,3 +12,4 @@ pub mod Makers
 pub mod Coherence
 pub mod Mends
 pub mod Numbers
+pub mod Descriptors

@@ -2,9 +2,10 @@
 use Prim.Native.Nat.{ℕ, min}
 use mathlib.Core.Bool.{Bool, true, false, cond, _||_}
 use mathlib.Core.List.{List, [], _∷_}
-use lib.ListN.{length}
+use lib.ListN.{length, take}
 use Rattle.rules.specs.declared.Bridge.{Bridge}
 use Rattle.rules.specs.declared.Direction.{Direction}
+use Rattle.rules.specs.declared.Dock.{Dock}
 use Rattle.rules.specs.declared.Direction.the-variants.{Out, In}
 use Rattle.rules.specs.declared.Halts.{Halts}
 use Rattle.rules.specs.declared.Phase.{Phase}
@@ -30,6 +31,10 @@ sizeFor n = min n 2048
 abbrev pub sizeOf : List ℕ → ℕ
 sizeOf memory = sizeFor (length memory)
 
+-- the M bytes of it that count
+abbrev pub fitted : List ℕ → List ℕ
+fitted memory = take (sizeOf memory) memory
+
 -- "A halt mark for bulk out (0x01) and one for bulk in (0x82)."
 abbrev pub bulkOut : ℕ
 bulkOut = 0x01
@@ -40,27 +45,27 @@ bulkIn = 0x82
 abbrev pub marks : Bool → Bool → Halts
 marks out back = record { outward = out; inward = back }
 
--- "At power-on: configuration 0, awaiting, no halts."
-abbrev pub powerOn : Bridge
-powerOn = record { configured = false; phase = Awaiting; halts = marks false false }
+-- "At power-on: configuration 0, awaiting, no halts." What is fixed then is told of the dock.
+abbrev pub powerOn : Dock → Bridge
+powerOn dock = record { dock = dock; configured = false; phase = Awaiting; halts = marks false false }
 
 -- "At power-on all are 0, but 0x04 is 0x24, the command signature."
 abbrev pub powerOnBytes : List ℕ
 powerOnBytes = 0 ∷ 0 ∷ 0 ∷ 0 ∷ 0x24 ∷ 0 ∷ 0 ∷ 0 ∷ 0 ∷ 0 ∷ 0 ∷ 0 ∷ 0 ∷ 0 ∷ 0 ∷ 0 ∷ []
 
-abbrev pub powered : List ℕ → World
-powered memory = world powerOn powerOnBytes memory
+abbrev pub powered : Dock → List ℕ → World
+powered dock memory = world (powerOn dock) powerOnBytes memory
 
 -- ---- the bridge, changed in one respect
 
 abbrev pub configuring : Bool → Bridge → Bridge
-configuring c b = record { configured = c; phase = b .phase; halts = b .halts }
+configuring c b = record { dock = b .dock; configured = c; phase = b .phase; halts = b .halts }
 
 abbrev pub inPhase : Phase → Bridge → Bridge
-inPhase p b = record { configured = b .configured; phase = p; halts = b .halts }
+inPhase p b = record { dock = b .dock; configured = b .configured; phase = p; halts = b .halts }
 
 abbrev pub halted : Bool → Bool → Bridge → Bridge
-halted out back b = record { configured = b .configured; phase = b .phase; halts = marks out back }
+halted out back b = record { dock = b .dock; configured = b .configured; phase = b .phase; halts = marks out back }
 
 -- the pipe of a direction is halted, if told so
 abbrev pub halting : Bool → Direction → Bridge → Bridge

@@ -1,6 +1,7 @@
 pub mod Words
 pub mod Held
 pub mod Changes
+pub mod Descriptors
 pub mod Requests
 pub mod Answers
 pub mod Packets

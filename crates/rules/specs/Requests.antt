@@ -1,4 +1,5 @@
--- Control requests: the fields of a setup, the table, places and addresses, and what each request does.
+-- Control requests: the fields of a setup, the table, places and addresses, and what each request does. Descriptors has what is found of the one that
+-- asks for a descriptor.
 use Prim.Native.Nat.{ℕ, _+_, _-_, _/_, _%_}
 use mathlib.Core.Bool.{Bool, true, false, cond, not, _&&_, _||_}
 use mathlib.Core.List.{List, [], _∷_}
@@ -10,8 +11,11 @@ use Rattle.rules.specs.declared.Change.the-variants.{Nothing, Sets}
 use Rattle.rules.specs.declared.Request.{Request}
 use Rattle.rules.specs.declared.Request.the-variants.{SetConfiguration, GetConfiguration, ClearFeature, GetStatus, GetMaxLun, MassStorageReset, LoadConfigData, ReadConfigData, SoftReset, BogusRead}
 use Rattle.rules.specs.declared.Setup.{Setup}
+use Rattle.rules.specs.declared.Stands.{Stands}
+use Rattle.rules.specs.declared.Stands.the-variants.{InRoom, InMemory}
 use Rattle.rules.specs.Words.{byte, word, one, over}
-use Rattle.rules.specs.Held.{World, configuration, bulkOut, bulkIn}
+use Rattle.rules.specs.Held.{World, configuration, fitted, bulkOut, bulkIn}
+use Rattle.rules.specs.Descriptors.{firstString, placeIn, told}
 use Rattle.rules.specs.Stopping.{clearFeature, massStorageReset, softReset}
 
 -- "Fields are the whole 16-bit numbers, low byte first."
@@ -20,16 +24,22 @@ setupOf s = record { kind = byte 0 s; code = byte 1 s; value = word 2 s; index =
 
 -- ---- the table: type, code, and the tests that wValue, wIndex and wLength must pass
 
+-- what a setup makes: a request of the table to be done, a descriptor to be found, or none, where "the pair, or a field fixed above, isn't in the table"
+pub data Named : Type 0 where
+  Unknown : Named
+  Known : (request : Request) → Named
+  Describes : Named
+
 pub record Row : Type 0 where
-  pub names : Request
+  pub names : Named
   pub kind : ℕ
   pub code : ℕ
   pub value : ℕ → Bool
   pub index : ℕ → Bool
   pub length : ℕ → Bool
 
-abbrev pub row : Request → ℕ → ℕ → (ℕ → Bool) → (ℕ → Bool) → (ℕ → Bool) → Row
-row r k c v i n = record { names = r; kind = k; code = c; value = v; index = i; length = n }
+abbrev pub row : Named → ℕ → ℕ → (ℕ → Bool) → (ℕ → Bool) → (ℕ → Bool) → Row
+row q k c v i n = record { names = q; kind = k; code = c; value = v; index = i; length = n }
 
 abbrev pub is : ℕ → ℕ → Bool
 is n x = eqb x n
@@ -42,30 +52,27 @@ any x = true
 
 abbrev pub table : List Row
 table =
-    row SetConfiguration 0x00 0x09 (or 0 2) (is 0) (is 0) ∷
-    row GetConfiguration 0x80 0x08 (is 0) (is 0) (is 1) ∷
-    row ClearFeature 0x02 0x01 (is 0) (or bulkOut bulkIn) (is 0) ∷
-    row GetStatus 0x82 0x00 (is 0) (or bulkOut bulkIn) (is 2) ∷
-    row GetMaxLun 0xA1 0xFE (is 0) (is 0) (is 1) ∷
-    row MassStorageReset 0x21 0xFF (is 0) (is 0) (is 0) ∷
-    row LoadConfigData 0x40 0x01 any any any ∷
-    row ReadConfigData 0xC0 0x02 any any any ∷
-    row SoftReset 0x40 0x03 (is 0) (is 0) (is 0) ∷
-    row BogusRead 0xC0 0x01 any any any ∷
+    row (Known SetConfiguration) 0x00 0x09 (or 0 2) (is 0) (is 0) ∷
+    row (Known GetConfiguration) 0x80 0x08 (is 0) (is 0) (is 1) ∷
+    row (Known ClearFeature) 0x02 0x01 (is 0) (or bulkOut bulkIn) (is 0) ∷
+    row (Known GetStatus) 0x82 0x00 (is 0) (or bulkOut bulkIn) (is 2) ∷
+    row (Known GetMaxLun) 0xA1 0xFE (is 0) (is 0) (is 1) ∷
+    row (Known MassStorageReset) 0x21 0xFF (is 0) (is 0) (is 0) ∷
+    row (Known LoadConfigData) 0x40 0x01 any any any ∷
+    row (Known ReadConfigData) 0xC0 0x02 any any any ∷
+    row (Known SoftReset) 0x40 0x03 (is 0) (is 0) (is 0) ∷
+    row (Known BogusRead) 0xC0 0x01 any any any ∷
+    -- "Get Descriptor (80, 06) .. wIndex is free."
+    row Describes 0x80 0x06 any any any ∷
     []
 
 abbrev pub fits : Row → Setup → Bool
 fits r s =
     eqb (s .kind) (r .kind) && eqb (s .code) (r .code) && (r .value) (s .value) && (r .index) (s .index) && (r .length) (s .length)
 
--- what a setup makes: a request of the table, or none, where "the pair, or a field fixed above, isn't in the table"
-pub data Named : Type 0 where
-  Unknown : Named
-  Known : (request : Request) → Named
-
 abbrev pub lookup : List Row → Setup → Named
 lookup [] s = Unknown
-lookup (r ∷ rs) s = cond (fits r s) (Known (r .names)) (lookup rs s)
+lookup (r ∷ rs) s = cond (fits r s) (r .names) (lookup rs s)
 
 unfoldable pub requestOf : Setup → Named
 requestOf s = lookup table s
@@ -86,10 +93,17 @@ rank BogusRead = 9
 abbrev pub isA : Request → Named → Bool
 isA q Unknown = false
 isA q (Known r) = eqb (rank r) (rank q)
+isA q Describes = false
 
 abbrev pub isUnknown : Named → Bool
 isUnknown Unknown = true
 isUnknown (Known r) = false
+isUnknown Describes = false
+
+abbrev pub describes : Named → Bool
+describes Unknown = false
+describes (Known r) = false
+describes Describes = true
 
 -- LOAD_CONFIG_DATA and READ_CONFIG_DATA, the two with a place
 abbrev pub hasPlace : Named → Bool
@@ -126,12 +140,12 @@ onePage start n = eqb n 0 || eqb (start / 256) ((start + n - 1) / 256)
 
 -- ---- data and reply
 
--- how many bytes the host sends, and how many it is sent: wLength, one way or the other
+-- how many bytes the host sends, and how many it is sent from the lent room: wLength, one way or the other; of a descriptor none
 abbrev pub sent : Setup → ℕ
 sent s = cond (ltb (s .kind) 0x80) (s .length) 0
 
-abbrev pub returned : Setup → ℕ
-returned s = cond (ltb (s .kind) 0x80) 0 (s .length)
+abbrev pub returned : Bool → Setup → ℕ
+returned found s = cond (found || ltb (s .kind) 0x80) 0 (s .length)
 
 -- ---- done
 
@@ -152,21 +166,27 @@ replyTo (Known LoadConfigData) s w = []
 replyTo (Known ReadConfigData) s w = take (s .length) (drop (s .index) (storeOf (s .value) w))
 replyTo (Known SoftReset) s w = []
 replyTo (Known BogusRead) s w = replicate (s .length) 0
+replyTo Describes s w = told (w .bridge .dock) (firstString (w .bytes)) (fitted (w .memory)) (s .value) (s .length)
 replyTo Unknown s w = []
 
--- .. and how many bytes that is
-abbrev pub replies : Named → Setup → ℕ
-replies (Known SetConfiguration) s = 0
-replies (Known GetConfiguration) s = 1
-replies (Known ClearFeature) s = 0
-replies (Known GetStatus) s = 2
-replies (Known GetMaxLun) s = 1
-replies (Known MassStorageReset) s = 0
-replies (Known LoadConfigData) s = 0
-replies (Known ReadConfigData) s = s .length
-replies (Known SoftReset) s = 0
-replies (Known BogusRead) s = s .length
-replies Unknown s = 0
+-- .. where it stands: a descriptor "is a part of the lent memory itself, not a copy"
+abbrev pub standing : Named → Setup → World → Stands
+standing (Known r) s w = InRoom
+standing Describes s w = InMemory (placeIn (w .bridge .dock) (firstString (w .bytes)) (s .value))
+standing Unknown s w = InRoom
+
+-- .. and, of a request that is done, how many bytes it is
+abbrev pub replies : Request → Setup → ℕ
+replies SetConfiguration s = 0
+replies GetConfiguration s = 1
+replies ClearFeature s = 0
+replies GetStatus s = 2
+replies GetMaxLun s = 1
+replies MassStorageReset s = 0
+replies LoadConfigData s = 0
+replies ReadConfigData s = s .length
+replies SoftReset s = 0
+replies BogusRead s = s .length
 
 abbrev pub changeBy : Named → Setup → Bridge → Change
 changeBy (Known SetConfiguration) s b = Sets (eqb (s .value) 2)
@@ -179,6 +199,7 @@ changeBy (Known LoadConfigData) s b = Nothing
 changeBy (Known ReadConfigData) s b = Nothing
 changeBy (Known SoftReset) s b = softReset (b .phase)
 changeBy (Known BogusRead) s b = Nothing
+changeBy Describes s b = Nothing
 changeBy Unknown s b = Nothing
 
 -- LOAD_CONFIG_DATA "writes n bytes", the host's, from start on: of the memory or of the configuration bytes

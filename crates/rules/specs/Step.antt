@@ -6,15 +6,18 @@ use lib.ListN.{length}
 use lib.Dec.{eqb}
 use Rattle.rules.specs.declared.Change.{Change}
 use Rattle.rules.specs.declared.Change.the-variants.{Nothing, Sets, Awaits, Stops}
+use Rattle.rules.specs.declared.Dock.{Dock}
 use Rattle.rules.specs.declared.Phase.{Phase}
 use Rattle.rules.specs.declared.Phase.the-variants.{Awaiting, Busy, StatusWaiting, Stopped}
-use Rattle.rules.specs.Held.{World, world, powered, sizeOf}
+use Rattle.rules.specs.declared.Stands.{Stands}
+use Rattle.rules.specs.declared.Stands.the-variants.{InRoom}
+use Rattle.rules.specs.Held.{World, world, powered}
 use Rattle.rules.specs.Changes.{made}
-use Rattle.rules.specs.Requests.{setupOf, requestOf, replyTo, changeBy, bytesAfter, memoryAfter}
+use Rattle.rules.specs.Requests.{setupOf, requestOf, replyTo, standing, changeBy, bytesAfter, memoryAfter}
 use Rattle.rules.specs.Packets.{commandOf, blockOf, directionOf, signatureOf, recognises, commandTaken, statusPacket}
 use Rattle.rules.specs.Operations.{codes, operationsOf}
 use Rattle.rules.specs.Reports.{reportTaken}
-use Rattle.rules.specs.Answers.{requestAnswer, packetAnswer, reportAnswer, statusAnswer}
+use Rattle.rules.specs.Answers.{seenOf, requestAnswer, packetAnswer, reportAnswer, statusAnswer}
 
 -- "The bridge is told of five kinds of event": a lent room enters by its length.
 pub data Event : Type 0 where
@@ -24,10 +27,11 @@ pub data Event : Type 0 where
   Report : (direction failed amount : ℕ) → Event
   StatusRequest : (room : ℕ) → Event
 
--- what an event answers and hands out, and the state that it leaves
+-- what an event answers and hands out, where its reply stands, and the state that it leaves
 pub record Outcome (State : Type 0) : Type 0 where
   pub answer : ℕ
   pub reply : List ℕ
+  pub stands : Stands
   pub operations : List ℕ
   pub next : State
 
@@ -47,7 +51,7 @@ statusReply (Stopped reset) = []
 
 abbrev pub answer : World → Event → ℕ
 answer w BusReset = 0
-answer w (Control setup host room) = requestAnswer (w .bridge .configured) (sizeOf (w .memory)) setup (length host) room
+answer w (Control setup host room) = requestAnswer (seenOf w) (w .memory) setup (length host) room
 answer w (Packet p room) = packetAnswer (w .bridge) p (length (operationsFor (signatureOf (w .bytes)) p)) room
 answer w (Report direction failed amount) = reportAnswer (w .bridge) direction failed amount
 answer w (StatusRequest room) = statusAnswer (w .bridge) room
@@ -58,6 +62,13 @@ reply w (Control setup host room) = replyTo (requestOf (setupOf setup)) (setupOf
 reply w (Packet p room) = []
 reply w (Report direction failed amount) = []
 reply w (StatusRequest room) = statusReply (w .bridge .phase)
+
+abbrev pub stands : World → Event → Stands
+stands w BusReset = InRoom
+stands w (Control setup host room) = cond (eqb (answer w (Control setup host room)) 0) (standing (requestOf (setupOf setup)) (setupOf setup) w) InRoom
+stands w (Packet p room) = InRoom
+stands w (Report direction failed amount) = InRoom
+stands w (StatusRequest room) = InRoom
 
 abbrev pub operations : World → Event → List ℕ
 operations w BusReset = []
@@ -109,6 +120,7 @@ step w e =
     record {
       answer = answer w e;
       reply = given (answer w e) (reply w e);
+      stands = stands w e;
       operations = given (answer w e) (operations w e);
       next =
           world (made (change w e) (w .bridge))
@@ -120,7 +132,7 @@ step w e =
 
 pub record Machine : Type 1 where
   pub State : Type 0
-  pub on : List ℕ → State
+  pub on : Dock → List ℕ → State
   pub shows : State → World
   pub takes : State → Event → Outcome State
 
@@ -132,6 +144,6 @@ abbrev pub after : (m : Machine) → m .State → List Event → m .State
 after m s [] = s
 after m s (e ∷ es) = after m (m .takes s e .next) es
 
--- after a history from power-on, with this memory fitted
-abbrev pub reached : (m : Machine) → List ℕ → List Event → m .State
-reached m memory history = after m (m .on memory) history
+-- after a history from power-on, of this dock with this memory fitted
+abbrev pub reached : (m : Machine) → Dock → List ℕ → List Event → m .State
+reached m dock memory history = after m (m .on dock memory) history

@@ -1,4 +1,4 @@
-// The answer numbers of document 01.
+// The answer numbers of documents 01 and 02.
 pub const DONE: u8 = 0;
 
 pub const SETUP_LENGTH: u8 = 1;
@@ -32,3 +32,7 @@ pub const OPERATION_ROOM: u8 = 15;
 pub const WRONG_PHASE: u8 = 16;
 
 pub const MALFORMED: u8 = 17;
+
+pub const NO_DESCRIPTOR: u8 = 18;
+
+pub const PAST_MEMORY: u8 = 19;

@@ -1,12 +1,16 @@
-// The types of document 01: what the bridge holds, what an event changes of it, the requests of its table, and the two kinds of packet with their
-// constants.
+// The types of documents 01 and 02: what the bridge holds, what an event changes of it, the requests of its table and what they are judged by, and the
+// two kinds of packet with their constants.
 ghost use mathlib.Core.Path.{_≡_};
 ghost use Rattle.rules.specs.Held.{powerOn, powerOnBytes};
 ghost use Rattle.rules.specs.Packets.{commandLayout, inward, statusLayout};
 ghost use Rattle.rules.specs.Reports.{directionNumber};
 
+pub mod addresses;
 pub mod answers;
 pub mod fields;
+
+use crate::addresses::Address;
+use crate::addresses::StringIndex;
 
 // Where data goes, seen from the host. With L = 0 none goes, and Out stands for that.
 pub enum Direction {
@@ -58,7 +62,13 @@ pub struct Halts {
     pub inward: bool,
 }
 
+// What is fixed at power-on.
+pub struct Dock {
+    pub bus_powered: bool,
+}
+
 pub struct Bridge {
+    pub dock: Dock,
     // The USB configuration: 2 where it is true, else 0.
     pub configured: bool,
     pub phase: Phase,
@@ -66,10 +76,11 @@ pub struct Bridge {
 }
 
 impl Bridge {
-    pub fn power_on() -> Self
-        ensures { λ r. ⌜ r ≡ powerOn ⌝ }
+    pub fn power_on(dock: Dock) -> Self
+        ensures { λ r. ⌜ r ≡ powerOn dock ⌝ }
     {
         Bridge {
+            dock: dock,
             configured: false,
             phase: Phase::Awaiting,
             halts: Halts {
@@ -120,7 +131,21 @@ pub struct Setup {
     pub length: u16,
 }
 
-// The rows of the request table.
+// What a control request is judged by, of all that the bridge holds beside the memory.
+pub struct Seen {
+    pub configured: bool,
+    pub dock: Dock,
+    // Configuration byte 0x0E.
+    pub first_string: StringIndex,
+}
+
+// Where what is handed out stands: at the front of the lent room, or, a part of the lent memory itself, from an address on.
+pub enum Stands {
+    InRoom,
+    InMemory(Address),
+}
+
+// The rows of the request table, but for Get Descriptor, which is not done but found.
 pub enum Request {
     SetConfiguration,
     GetConfiguration,

@@ -9,14 +9,15 @@ use borrow.Author.Tests.{eqb-true, not-true}
 use Rattle.rules.specs.declared.Bridge.{Bridge}
 use Rattle.rules.specs.declared.Change.the-variants.{Nothing, Stops}
 use Rattle.rules.specs.declared.Direction.the-variants.{Out, In}
+use Rattle.rules.specs.declared.Dock.{Dock}
 use Rattle.rules.specs.declared.Phase.the-variants.{Awaiting, Stopped}
 use Rattle.rules.specs.declared.Request.the-variants.{SetConfiguration, GetConfiguration, ClearFeature, GetStatus, GetMaxLun, MassStorageReset, LoadConfigData, ReadConfigData, SoftReset, BogusRead}
 use Rattle.rules.specs.declared.Setup.{Setup}
-use Rattle.rules.specs.Held.{World, world, powered, sizeOf, bulkOut, bulkIn, configuring, inPhase, halted}
+use Rattle.rules.specs.Held.{World, world, powered, bulkOut, bulkIn, configuring, inPhase, halted}
 use Rattle.rules.specs.Changes.{made}
 use Rattle.rules.specs.Stopping.{clearsPipe}
-use Rattle.rules.specs.Requests.{Named, Unknown, Known, setupOf, requestOf, isA, changeBy, bytesAfter, memoryAfter}
-use Rattle.rules.specs.Answers.{requestAnswer, packetAnswer, reportAnswer, statusAnswer}
+use Rattle.rules.specs.Requests.{Named, Unknown, Known, Describes, setupOf, requestOf, isA, changeBy, bytesAfter, memoryAfter}
+use Rattle.rules.specs.Answers.{seenOf, requestAnswer, packetAnswer, reportAnswer, statusAnswer}
 use Rattle.rules.specs.Step.{Event, BusReset, Control, Packet, Report, StatusRequest, change, step, rules, after, done, damaged}
 use Rattle.rules.specs.Demands.Boundary.{Ready, isBusReset, accepts, someHalt, clearsSecond, boundary, unbroken, keptWrites, statusIn, Silent, Stop, Silence, Resumption, resetAmong, NoEndWithoutReset, recovery, Recovery}
 use Rattle.rules.proofs.Checks.{request-undamaged}
@@ -92,6 +93,7 @@ module _ (r : Bool) (b : Bridge) (bytes memory : List ℕ) (h : (b .halts .outwa
   request-course (Known ReadConfigData) true = goes-on refl (stands b bytes memory h) refl
   request-course (Known SoftReset) true = goes-on refl (stands b bytes memory h) refl
   request-course (Known BogusRead) true = goes-on refl (stands b bytes memory h) refl
+  request-course Describes true = goes-on refl (stands b bytes memory h) refl
   request-course Unknown true = goes-on refl (stands b bytes memory h) refl
 
 -- the course of every event at a stop
@@ -103,7 +105,7 @@ course (stands b bytes memory h) BusReset = ended refl refl (λ x. absurd (false
 course {r} (stands b bytes memory h) (Control setup host room) =
     rw request-undamaged
     (request-course r b bytes memory h (setupOf setup) host (requestOf (setupOf setup))
-    (done (requestAnswer true (sizeOf memory) setup (length host) room)))
+    (done (requestAnswer (seenOf (world (configuring true b) bytes memory)) memory setup (length host) room)))
 course (stands b bytes memory h) (Packet p room) = goes-on refl (stands b bytes memory h) refl
 course (stands b bytes memory h) (Report direction failed amount) = goes-on refl (stands b bytes memory h) refl
 course (stands b bytes memory h) (StatusRequest room) = goes-on refl (stands b bytes memory h) refl
@@ -197,9 +199,9 @@ ready-calm w g =
 
 -- ---- demand 3: the stop that a damaged packet makes of the bridge before it, how it lasts, and how the bridge is when it ends
 
-module _ {memory : List ℕ} {history : List Event} {d : Event} {since : List Event} (s : Stop rules memory history d since) where
+module _ {dock : Dock} {memory : List ℕ} {history : List Event} {d : Event} {since : List Event} (s : Stop rules dock memory history d since) where
   abbrev before : World
-  before = after rules (powered memory) history
+  before = after rules (powered dock memory) history
 
   stopped : step before d .next ≡ world (configuring true (made Stops (before .bridge))) (before .bytes) (before .memory)
   stopped = damage-stops before d (s .ready) (s .damages)
@@ -213,15 +215,15 @@ module _ {memory : List ℕ} {history : List Event} {d : Event} {since : List Ev
       ∙ ap (λ w. after rules w (keptWrites rules (step before d .next) since)) (ap calmed stopped ∙ ready-calm before (s .ready))
 
 pub silence : Silence rules
-silence memory history d since s =
+silence dock memory history d since s =
     let q = damage-silent (before s) d (s .damages) in (q .0, q .1, lasted s .silent)
 
 pub resumption : Resumption rules
-resumption memory history d since b s f =
+resumption dock memory history d since b s f =
     rw (after-append, after-append, ← (resumed s), after-kept) (ending (course (lasted s .lasts) b) f .0)
 
 pub no-end-without-reset : NoEndWithoutReset rules
-no-end-without-reset memory history d since b s f = rw or-false at (ending (course (lasted s .lasts) b) (rw f) .1 f)
+no-end-without-reset dock memory history d since b s f = rw or-false at (ending (course (lasted s .lasts) b) (rw f) .1 f)
 
 -- reset recovery calms every stop
 recovered : {r : Bool} {w : World} → Stands r w
@@ -238,6 +240,6 @@ recovered {r = r} (stands b bytes memory h) = go (b .halts .outward) (b .halts .
     go false false h = absurd (false≢true h)
 
 pub recovers : Recovery rules
-recovers memory history d since s =
+recovers dock memory history d since s =
     let q = recovered (lasted s .lasts) in
     (rw after-append (q .0 ∙ resumed s), rw after-append (q .1 ∙ resumed s))

@@ -14,21 +14,20 @@ use Rattle.rules.specs.declared.CommandPacket.{CommandPacket}
 use Rattle.rules.specs.declared.Direction.the-variants.{Out, In}
 use Rattle.rules.specs.declared.Phase.{Phase}
 use Rattle.rules.specs.declared.Phase.the-variants.{Awaiting, Busy, StatusWaiting, Stopped}
-use Rattle.rules.specs.declared.Request.{Request}
 use Rattle.rules.specs.declared.Request.the-variants.{LoadConfigData}
 use Rattle.rules.specs.declared.Setup.{Setup}
 use Rattle.rules.specs.Words.{one, Check, first}
-use Rattle.rules.specs.Held.{World, world, powered, configuration, sizeOf, isStopped}
+use Rattle.rules.specs.Held.{World, world, powered, configuration, isStopped}
 use Rattle.rules.specs.Changes.{made}
 use Rattle.rules.specs.Stopping.{clears, clearFeature, massStorageReset, softReset}
-use Rattle.rules.specs.Requests.{Known, table, address, setupOf, requestOf, isA, changeBy, bytesAfter, memoryAfter}
+use Rattle.rules.specs.Requests.{Named, table, address, setupOf, requestOf, isA, changeBy, bytesAfter, memoryAfter}
 use Rattle.rules.specs.Packets.{commandOf, signatureOf, recognises, commandTaken}
 use Rattle.rules.specs.Reports.{reportTaken}
-use Rattle.rules.specs.Answers.{requestAnswer, packetChecks, packetAnswer, reportAnswer, statusChecks, statusAnswer}
+use Rattle.rules.specs.Answers.{seenOf, requestAnswer, packetChecks, packetAnswer, reportAnswer, statusChecks, statusAnswer}
 use Rattle.rules.specs.Step.{operationsFor, Event, BusReset, Control, Packet, Report, StatusRequest, answer, done, damaged, changeDone, change, step, rules, after}
 use Rattle.rules.specs.Demands.Refusals.{damages}
 use Rattle.rules.specs.Demands.Requests.{wire, asking}
-use Rattle.rules.specs.Demands.Coherence.{Replies, setsTo, configured, ConfigurationIsTold, BusResetIsPowerOn, ConfigurationRestarts, PowerOnIsRead, HaltsAreTold, DamageHalts, ClearClears, ResetsAgree, HandsOutItsOwn, AskingChangesNothing, WritingKeepsBridge, StatusKeeps, ZerosAreTold}
+use Rattle.rules.specs.Demands.Coherence.{Replies, setsTo, configured, ConfigurationIsTold, BusResetIsPowerOn, DockIsFixed, ConfigurationRestarts, PowerOnIsRead, HaltsAreTold, DamageHalts, ClearClears, ResetsAgree, HandsOutItsOwn, AskingChangesNothing, WritingKeepsBridge, StatusKeeps, ZerosAreTold}
 use Rattle.rules.proofs.Demands.Boundary.{none-given}
 use Rattle.rules.proofs.Demands.Refusals.{refusals}
 use Rattle.rules.proofs.Changes.{either, feature}
@@ -73,8 +72,8 @@ report-unset direction failed amount (StatusWaiting tag residue status) = tt
 report-unset direction failed amount (Stopped reset) = tt
 
 -- an accepted request leaves the configuration as it is, or as Set Configuration says
-abbrev SetsConfiguration : List ℕ → Bridge → Request → Type 0
-SetsConfiguration setup b r = configuration (made (changeBy (Known r) (setupOf setup) b) b) ≡ setsTo (Control setup [] 0) (configuration b)
+abbrev SetsConfiguration : List ℕ → Bridge → Named → Type 0
+SetsConfiguration setup b q = configuration (made (changeBy q (setupOf setup) b) b) ≡ setsTo (Control setup [] 0) (configuration b)
 
 request-sets : (setup : List ℕ) (b : Bridge) → EachRow (SetsConfiguration setup b) (setupOf setup) table
 request-sets setup b =
@@ -87,6 +86,7 @@ request-sets setup b =
     also (λ h. rw (h .kind))
     also (λ h. rw (h .kind))
     also (λ h. rw (h .kind) (held (softReset (b .phase)) (either Unset (isStopped (b .phase)) Nothing Awaits tt tt)))
+    also (λ h. rw (h .kind))
     also (λ h. rw (h .kind))
     also tt
   where
@@ -127,15 +127,14 @@ event-sets w BusReset = refl
 event-sets w (Control setup host room) = rw request-undamaged (go (done n) refl)
   where
     n : ℕ
-    n = requestAnswer (w .bridge .configured) (sizeOf (w .memory)) setup (length host) room
+    n = requestAnswer (seenOf w) (w .memory) setup (length host) room
 
     go : (t : Bool) → done n ≡ t
         → configuration (made (cond t (changeBy (requestOf (setupOf setup)) (setupOf setup) (w .bridge)) Nothing) (w .bridge))
         ≡ cond t (setsTo (Control setup host room) (configuration (w .bridge))) (configuration (w .bridge))
     go true e =
-        let k = request-passed (w .bridge .configured) (sizeOf (w .memory)) setup (length host) room (eqb-true n 0 e) in
-        let r = request-each (SetsConfiguration setup (w .bridge)) (setupOf setup) (request-sets setup (w .bridge)) (k .1 .1 .0) in
-        rw (r .1) (r .2)
+        let k = request-passed (seenOf w) (w .memory) setup (length host) room (eqb-true n 0 e) in
+        request-each (SetsConfiguration setup (w .bridge)) (setupOf setup) (request-sets setup (w .bridge)) (k .1 .1 .0)
     go false e = refl
 event-sets w (Packet p room) = event-keeps w (Packet p room) (command-unset (recognises (signatureOf (w .bytes)) p) (commandOf p)) refl
 event-sets w (Report direction failed amount) =
@@ -151,13 +150,35 @@ unfolding step change requestOf requestAnswer
 configuration-told w = simp and-false (refl, refl)
 
 pub configuration-is-told : ConfigurationIsTold rules
-configuration-is-told memory history =
-    let t = configuration-told (after rules (powered memory) history) in
-    (t .0, t .1 ∙ ap (λ (c : ℕ). c ∷ []) (run-sets (powered memory) history))
+configuration-is-told dock memory history =
+    let t = configuration-told (after rules (powered dock memory) history) in
+    (t .0, t .1 ∙ ap (λ (c : ℕ). c ∷ []) (run-sets (powered dock memory) history))
 
 pub bus-reset-is-power-on : BusResetIsPowerOn rules
 unfolding step change
 bus-reset-is-power-on w memory = refl
+
+-- no change is of the dock
+fixed : (c : Change) (b : Bridge) → made c b .dock ≡ b .dock
+fixed Nothing b = refl
+fixed (Sets c) b = refl
+fixed Awaits b = refl
+fixed (Begins direction tag l) b = refl
+fixed (Finishes Out halts status tag residue) b = refl
+fixed (Finishes In halts status tag residue) b = refl
+fixed Stops b = refl
+fixed Notes b = refl
+fixed (Clears Out) b = refl
+fixed (Clears In) b = refl
+fixed Ends b = refl
+
+run-fixed : (w : World) (history : List Event) → after rules w history .bridge .dock ≡ w .bridge .dock
+unfolding step
+run-fixed w [] = refl
+run-fixed w (e ∷ es) = run-fixed (step w e .next) es ∙ fixed (change w e) (w .bridge)
+
+pub dock-is-fixed : DockIsFixed rules
+dock-is-fixed dock memory history = run-fixed (powered dock memory) history
 
 pub configuration-restarts : ConfigurationRestarts rules
 unfolding step change requestOf requestAnswer
@@ -165,7 +186,7 @@ configuration-restarts w = simp and-false (refl, refl, refl, refl)
 
 pub power-on-is-read : PowerOnIsRead rules
 unfolding step change requestOf requestAnswer address
-power-on-is-read memory = (refl, refl)
+power-on-is-read dock memory = (refl, refl)
 
 -- ---- pipes
 
@@ -189,7 +210,7 @@ damage-left : (w : World) (p : List ℕ) (room : ℕ) → damages (step w (Packe
     → step w (Packet p room) .next ≡ world (made Stops (w .bridge)) (w .bytes) (w .memory)
 damage-left w p room d =
     let n : ℕ = step w (Packet p room) .answer in
-    rw d at (refusals w (Packet p room) (λ z. false≢true (rw z at d)) .2)
+    rw d at (refusals w (Packet p room) (λ z. false≢true (rw z at d)) .3)
 
 damage-configured : (w : World) (p : List ℕ) (room : ℕ) → damages (step w (Packet p room) .answer) ≡ true → w .bridge .configured ≡ true
 unfolding step packetAnswer
@@ -242,7 +263,7 @@ hands-out-its-own w (StatusRequest room) = rw none-given
 pub writing-keeps-bridge : WritingKeepsBridge rules
 unfolding step change requestOf
 writing-keeps-bridge w place start n host room =
-    rw request-undamaged (go (done (requestAnswer (w .bridge .configured) (sizeOf (w .memory)) (wire 0x40 0x01 place start n) (length host) room)))
+    rw request-undamaged (go (done (requestAnswer (seenOf w) (w .memory) (wire 0x40 0x01 place start n) (length host) room)))
   where
     go : (t : Bool) → made (cond t Nothing Nothing) (w .bridge) ≡ w .bridge
     go true = refl
@@ -258,7 +279,7 @@ zeros-are-told w value index n c = rw (c, whole n, le-ltb n n (omega arith)) ((r
 
 -- a request of the table that asks changes nothing of the bridge and writes nothing
 asking-rows : (s : Setup) (b : Bridge) → 0x80 ≤ s .kind
-    → EachRow (λ r. (changeBy (Known r) s b ≡ Nothing) × (isA LoadConfigData (Known r) ≡ false)) s table
+    → EachRow (λ q. (changeBy q s b ≡ Nothing) × (isA LoadConfigData q ≡ false)) s table
 asking-rows s b h =
     (λ f. absurd (out (f .kind) refl))
     also (λ f. (refl, refl))
@@ -270,6 +291,7 @@ asking-rows s b h =
     also (λ f. (refl, refl))
     also (λ f. absurd (out (f .kind) refl))
     also (λ f. (refl, refl))
+    also (λ f. (refl, refl))
     also tt
   where
     out : {k : ℕ} → s .kind ≡ k → ltb k 0x80 ≡ true → ⊥
@@ -280,7 +302,7 @@ unfolding step change
 asking-changes-nothing w setup host room h = rw request-undamaged (go (done n) refl)
   where
     n : ℕ
-    n = requestAnswer (w .bridge .configured) (sizeOf (w .memory)) setup (length host) room
+    n = requestAnswer (seenOf w) (w .memory) setup (length host) room
 
     s : Setup
     s = setupOf setup
@@ -290,7 +312,7 @@ asking-changes-nothing w setup host room h = rw request-undamaged (go (done n) r
         (cond t (memoryAfter (requestOf s) s host (w .memory)) (w .memory))
         ≡ w
     go true e =
-        let k = request-passed (w .bridge .configured) (sizeOf (w .memory)) setup (length host) room (eqb-true n 0 e) in
-        let r = request-each (λ r. (changeBy (Known r) s (w .bridge) ≡ Nothing) × (isA LoadConfigData (Known r) ≡ false)) s (asking-rows s (w .bridge) h) (k .1 .1 .0) in
-        rw (r .1, r .2 .0, r .2 .1)
+        let k = request-passed (seenOf w) (w .memory) setup (length host) room (eqb-true n 0 e) in
+        let r = request-each (λ q. (changeBy q s (w .bridge) ≡ Nothing) × (isA LoadConfigData q ≡ false)) s (asking-rows s (w .bridge) h) (k .1 .1 .0) in
+        rw (r .0, r .1)
     go false e = refl

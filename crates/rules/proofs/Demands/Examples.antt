@@ -10,8 +10,8 @@ use Rattle.rules.specs.Demands.Examples.{Examples, Story}
 
 pub examples : Examples rules
 unfolding step change requestOf address onePage requestAnswer packetAnswer reportAnswer statusAnswer valid meaningful recognised operationsOf malformed mismatch
-examples = refl
+examples dock = refl
 
 pub a-stop : Story rules
 unfolding step change requestOf address onePage requestAnswer packetAnswer reportAnswer statusAnswer valid meaningful recognised operationsOf malformed mismatch
-a-stop = refl
+a-stop dock = refl

@@ -1,7 +1,7 @@
 -- A refusal names what is to be mended, and with that mended the event is done.
 use mathlib.Core.Path.{_≡_, refl, sym, ap, _∙_}
 use mathlib.Core.Logic.{_⊎_, inl, inr}
-use mathlib.Core.Bool.{Bool, true, false, cond, not, _&&_, _||_, true≢false, false≢true, and-eq-true-iff, and-false}
+use mathlib.Core.Bool.{Bool, true, false, cond, not, _&&_, _||_, true≢false, false≢true, and-eq-true-iff, and-false, or-true}
 use mathlib.Core.List.{List, [], _∷_, _++_}
 use Prim.Native.Nat.{ℕ, _+_, _-_, _≤_}
 use native.Mathlib.Omega.{arith}
@@ -12,12 +12,14 @@ use borrow.Author.Tests.{eqb-true, eqb-false, leb-true, ltb-true, le-leb, eq-eqb
 use Rattle.rules.specs.declared.Phase.{Phase}
 use Rattle.rules.specs.declared.Phase.the-variants.{Awaiting, Busy, StatusWaiting, Stopped}
 use Rattle.rules.specs.declared.Setup.{Setup}
+use Rattle.rules.specs.declared.Stands.the-variants.{InRoom}
 use Rattle.rules.specs.Words.{laid, Check, byte, word, first}
+use Rattle.rules.specs.Promise.{roomWith}
 use Rattle.rules.specs.Held.{World, sizeOf, isAwaiting, isStatusWaiting, isStopped}
 use Rattle.rules.specs.Packets.{statusLayout, signatureOf}
 use Rattle.rules.specs.Reports.{malformed}
-use Rattle.rules.specs.Requests.{setupOf, requestOf, inBytes, inMemory, address, onePage, returned, sent}
-use Rattle.rules.specs.Answers.{dataChecks, requestChecks, requestAnswer, packetChecks, packetAnswer, reportChecks, reportAnswer, statusChecks, statusAnswer}
+use Rattle.rules.specs.Requests.{Named, Unknown, Known, Describes, setupOf, requestOf, describes, replyTo, standing, inBytes, inMemory, address, onePage, returned, sent}
+use Rattle.rules.specs.Answers.{seenOf, dataChecks, requestChecks, requestAnswer, packetChecks, packetAnswer, reportChecks, reportAnswer, statusChecks, statusAnswer}
 use Rattle.rules.specs.Step.{Control, Packet, StatusRequest, operationsFor, statusReply, step, rules}
 use Rattle.rules.specs.Demands.Requests.{wire}
 use Rattle.rules.specs.Demands.Makers.{Free}
@@ -40,30 +42,33 @@ module _ (w : World) (setup : List ℕ) where
   abbrev s : Setup
   s = setupOf setup
 
+  abbrev found : Bool
+  found = describes (requestOf s)
+
   -- the checks before those of the data, which depend on neither what the host sends nor the room
   abbrev front : List Check
-  front = take 8 (requestChecks (w .bridge .configured) (sizeOf (w .memory)) (length setup) s (requestOf s) 0 0)
+  front = take 12 (requestChecks (seenOf w) (w .memory) (length setup) s (requestOf s) 0 0)
 
   -- where the answer is none of their numbers, those of the data decide
-  data-decide : (host room n : ℕ) → requestAnswer (w .bridge .configured) (sizeOf (w .memory)) setup host room ≡ n
+  data-decide : (host room n : ℕ) → requestAnswer (seenOf w) (w .memory) setup host room ≡ n
       → allNumbers (λ k. not (eqb k n)) front ≡ true
-      → (first (dataChecks s host room) ≡ n)
-      × ((host' room' : ℕ) → requestAnswer (w .bridge .configured) (sizeOf (w .memory)) setup host' room' ≡ first (dataChecks s host' room'))
+      → (first (dataChecks found s host room) ≡ n)
+      × ((host' room' : ℕ) → requestAnswer (seenOf w) (w .memory) setup host' room' ≡ first (dataChecks found s host' room'))
   unfolding requestAnswer
   data-decide host room n a h = go (eqb (first front) 0) refl
     where
       go : (t : Bool) → eqb (first front) 0 ≡ t
-          → (first (dataChecks s host room) ≡ n) × ((host' room' : ℕ) → first (front ++ dataChecks s host' room') ≡ first (dataChecks s host' room'))
+          → (first (dataChecks found s host room) ≡ n) × ((host' room' : ℕ) → first (front ++ dataChecks found s host' room') ≡ first (dataChecks found s host' room'))
       go true e =
-          let by : (host' room' : ℕ) → first (front ++ dataChecks s host' room') ≡ first (dataChecks s host' room') =
-          λ host' room'. first-append front (dataChecks s host' room') refl ∙ rw e in
+          let by : (host' room' : ℕ) → first (front ++ dataChecks found s host' room') ≡ first (dataChecks found s host' room') =
+          λ host' room'. first-append front (dataChecks found s host' room') refl ∙ rw e in
           (sym (by host room) ∙ a, by)
       go false e =
-          let f : first front ≡ n = sym (first-append front (dataChecks s host room) refl ∙ rw e) ∙ a in
+          let f : first front ≡ n = sym (first-append front (dataChecks found s host room) refl ∙ rw e) ∙ a in
           absurd (false≢true (rw (eq-eqb (first front) n f) at (answer-has (λ k. not (eqb k n)) front h)))
 
-  returned-most : returned s ≤ word 6 setup
-  returned-most = go (ltb (s .kind) 0x80)
+  returned-most : returned found s ≤ word 6 setup
+  returned-most = go (found || ltb (s .kind) 0x80)
     where
       go : (t : Bool) → cond t 0 (s .length) ≤ word 6 setup
       go true = omega arith
@@ -73,22 +78,22 @@ module _ (w : World) (setup : List ℕ) where
   unfolding step
   control-room host room a =
       let d = data-decide (length host) room 3 a refl in
-      let h = decides 3 (dataChecks s (length host) room) (d .0) .0 in
+      let h = decides 3 (dataChecks found s (length host) room) (d .0) .0 in
       d .1 (length host) (word 6 setup)
-      ∙ all-passed (dataChecks s (length host) (word 6 setup)) (h, (le-ltb (word 6 setup) (returned s) returned-most, tt))
+      ∙ all-passed (dataChecks found s (length host) (word 6 setup)) (h, (le-ltb (word 6 setup) (returned found s) returned-most, tt))
 
   -- data of the right length, with room
-  control-data : (host room host' room' : ℕ) → requestAnswer (w .bridge .configured) (sizeOf (w .memory)) setup host room ≡ 2
-      → host' ≡ sent s → returned s ≤ room' → requestAnswer (w .bridge .configured) (sizeOf (w .memory)) setup host' room' ≡ 0
+  control-data : (host room host' room' : ℕ) → requestAnswer (seenOf w) (w .memory) setup host room ≡ 2
+      → host' ≡ sent s → returned found s ≤ room' → requestAnswer (seenOf w) (w .memory) setup host' room' ≡ 0
   control-data host room host' room' a h r =
       data-decide host room 2 a refl .1 host' room'
-      ∙ all-passed (dataChecks s host' room') (ap not (eq-eqb host' (sent s) h), (le-ltb room' (returned s) r, tt))
+      ∙ all-passed (dataChecks found s host' room') (ap not (eq-eqb host' (sent s) h), (le-ltb room' (returned found s) r, tt))
 
 pub data-mends : DataMends rules
 unfolding step
 data-mends w setup host sends room a = (
   λ k h.
-      control-data w setup (length host) room (length sends) 0 a (rw (lt-ltb (byte 0 setup) 0x80 k) h) (rw (lt-ltb (byte 0 setup) 0x80 k) (omega arith)),
+      control-data w setup (length host) room (length sends) 0 a (rw (lt-ltb (byte 0 setup) 0x80 k) h) (rw (lt-ltb (byte 0 setup) 0x80 k, or-true) (omega arith)),
   λ k. control-data w setup (length host) room 0 (word 6 setup) a (rw (le-ltb (byte 0 setup) 0x80 k)) (returned-most w setup),
 )
 
@@ -111,7 +116,7 @@ write-mends w place start n host room = (
     checks : ℕ → List Check
     checks n =
         let s = setupOf (wire 0x40 0x01 place start n) in
-        requestChecks (w .bridge .configured) m 8 s (requestOf s) (length host) room
+        requestChecks (seenOf w) (w .memory) 8 s (requestOf s) (length host) room
 
     nothing : (t : Bool) → cond t (ltb start m && leb (start + n) m) (leb 2 start && leb start 15 && leb (start + n) 16) ≡ true
         → cond t (ltb start m && leb (start + 0) m) (leb 2 start && leb start 15 && leb (start + 0) 16) ≡ true
@@ -143,7 +148,7 @@ module _ (w : World) (place start n : ℕ) (host : List ℕ) (room : ℕ) where
   abbrev moving : ℕ → ℕ → List Check
   moving kind code =
       let s = setupOf (wire kind code place start n) in
-      requestChecks (w .bridge .configured) (sizeOf (w .memory)) 8 s (requestOf s) (length host) room
+      requestChecks (seenOf w) (w .memory) 8 s (requestOf s) (length host) room
 
   none-fitted : (t : Bool) (behind : List Check) → allNumbers (λ k. not (eqb k 7)) behind ≡ true
       → ((t && eqb (sizeOf (w .memory)) 0) ≡ true) ⊎ (first behind ≡ 7) → length (w .memory) ≡ 0
@@ -202,7 +207,7 @@ room-mends w setup host p room = (control-room w setup host room, status-room w 
 pub room-suffices : RoomSuffices rules
 unfolding step packetAnswer statusAnswer
 room-suffices w setup host p room sixteen = (
-  λ a. rw a (reply-fits w setup (length host) room sixteen a),
+  λ a. rw a (λ k. requested a (requestOf (setupOf setup)) refl k),
   λ a.
       let k = passed (statusChecks (w .bridge) room) refl a in
       rw a (waiting (w .bridge .phase) (not-false (isStatusWaiting (w .bridge .phase)) (k .1 .1 .0)) (ltb-false room _ (k .1 .1 .1 .0))),
@@ -211,13 +216,19 @@ room-suffices w setup host p room sixteen = (
       rw a (ltb-false room (needs w p) (k .1 .1 .1 .1 .1 .0)),
 )
   where
+    requested : step w (Control setup host room) .answer ≡ 0 → (q : Named) → requestOf (setupOf setup) ≡ q → standing q (setupOf setup) w ≡ InRoom
+        → length (replyTo q (setupOf setup) w) ≤ room
+    requested a (Known r) e k = reply-fits w setup (length host) room sixteen a r e
+    requested a Describes e k = absurd (let z : _≡_ {A = ℕ} 0 1 = cc in omega arith)
+    requested a Unknown e k = omega arith
+
     waiting : (p : Phase) → isStatusWaiting p ≡ true → statusLayout .length ≤ room → length (statusReply p) ≤ room
     waiting Awaiting h r = absurd (false≢true h)
     waiting (Busy direction tag l) h r = absurd (false≢true h)
     waiting (StatusWaiting tag residue status) h r = r
     waiting (Stopped reset) h r = absurd (false≢true h)
 
-pub front-of-room : FrontOfRoom laid
+pub front-of-room : FrontOfRoom roomWith
 front-of-room out room k fits = (
   rw (length-append out (drop (length out) room), length-drop) (omega arith),
   λ l. List·getD-append out (drop (length out) room) 0 k l,
@@ -227,6 +238,7 @@ front-of-room out room k fits = (
       ∙ getD-append-add out (drop (length out) room) (k - length out) 0
       ∙ getD-drop (length out) room (k - length out) 0
       ∙ ap (λ (j : ℕ). byte j room) (sym e),
+  λ at. refl,
 )
 
 pub room-is-enough : RoomIsEnough rules

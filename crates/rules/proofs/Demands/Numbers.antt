@@ -1,5 +1,5 @@
 -- A refusal's number tells what its check says.
-use mathlib.Core.Path.{_≡_, refl, ap}
+use mathlib.Core.Path.{_≡_, refl, sym, ap, _∙_}
 use mathlib.Core.Bool.{Bool, false, not, _&&_, _||_, false≢true, and-eq-true-iff}
 use mathlib.Core.List.{List, []}
 use Prim.Native.Nat.{ℕ, _<_, _≤_}
@@ -7,18 +7,17 @@ use native.Mathlib.Omega.{arith}
 use lib.ListN.{length, drop}
 use lib.Dec.{eqb}
 use borrow.Author.Tests.{eqb-true, eqb-false, lt-ltb, le-ltb, not-true, not-false}
-use Rattle.rules.specs.declared.Request.{Request}
 use Rattle.rules.specs.declared.Setup.{Setup}
 use Rattle.rules.specs.Words.{Check, byte, word, first}
-use Rattle.rules.specs.Held.{World, sizeOf, isAwaiting, isBusy, isStatusWaiting}
-use Rattle.rules.specs.Requests.{setupOf, requestOf, isUnknown, hasPlace, inBytes, inMemory, needsConfiguration, sent}
-use Rattle.rules.specs.Answers.{requestChecks, requestAnswer, packetChecks, packetAnswer, reportChecks, reportAnswer, statusChecks, statusAnswer}
+use Rattle.rules.specs.Held.{World, isAwaiting, isBusy, isStatusWaiting}
+use Rattle.rules.specs.Requests.{Named, setupOf, requestOf, isUnknown, hasPlace, inBytes, inMemory, needsConfiguration, sent}
+use Rattle.rules.specs.Answers.{seenOf, requestChecks, requestAnswer, packetChecks, packetAnswer, reportChecks, reportAnswer, statusChecks, statusAnswer}
 use Rattle.rules.specs.Step.{BusReset, Control, Packet, Report, StatusRequest, step, rules}
 use Rattle.rules.specs.Demands.Makers.{Asks}
 use Rattle.rules.specs.Demands.Numbers.{RequestNumbers, FourIsUnconfigured, SixteenIsNoTurn}
 use Rattle.rules.proofs.Checks.{decides, sole}
 use Rattle.rules.proofs.Demands.Mends.{needs}
-use Rattle.rules.proofs.Demands.Setups.{asked-is-found}
+use Rattle.rules.proofs.Demands.Setups.{asked-known, asked-is-found}
 use Rattle.rules.proofs.Demands.Turns.{no-packet, no-report, no-status}
 
 module _ (w : World) (setup : List ℕ) (host : List ℕ) (room : ℕ) where
@@ -29,16 +28,16 @@ module _ (w : World) (setup : List ℕ) (host : List ℕ) (room : ℕ) where
   c = w .bridge .configured
 
   abbrev checks : List Check
-  checks = requestChecks c (sizeOf (w .memory)) (length setup) s (requestOf s) (length host) room
+  checks = requestChecks (seenOf w) (w .memory) (length setup) s (requestOf s) (length host) room
 
   one : first checks ≡ 1 → length setup ≡ 8 → ⊥
   one a n = false≢true (rw n at (sole 1 (not (eqb (length setup) 8)) (drop 1 checks) refl (decides 1 checks a)))
 
-  five : first checks ≡ 5 → (length setup ≡ 8) × ((r : Request) → Asks setup r → ⊥)
+  five : first checks ≡ 5 → (length setup ≡ 8) × ((q : Named) → Asks setup q → ⊥)
   five a =
       let d = decides 5 checks a in
       let u = sole 5 (isUnknown (requestOf s)) (drop 3 checks) refl (d .1 .1) in
-      (eqb-true (length setup) 8 (not-false _ (d .0)), λ r k. false≢true (rw (asked-is-found setup r k) at u))
+      (eqb-true (length setup) 8 (not-false _ (d .0)), λ q k. false≢true (sym (asked-known k) ∙ (rw (asked-is-found setup q k) at u)))
 
   six : first checks ≡ 6 → (word 2 setup ≡ 0x0000 → ⊥) × (word 2 setup ≡ 0x0002 → ⊥)
   six a =
@@ -48,7 +47,7 @@ module _ (w : World) (setup : List ℕ) (host : List ℕ) (room : ℕ) where
 
   two : first checks ≡ 2 → (byte 0 setup < 0x80 → length host ≡ word 6 setup → ⊥) × (0x80 ≤ byte 0 setup → host ≡ [] → ⊥)
   two a =
-      let e = sole 2 (not (eqb (length host) (sent s))) (drop 9 checks) refl (decides 2 checks a .1 .1 .1 .1 .1 .1 .1 .1) in
+      let e = sole 2 (not (eqb (length host) (sent s))) (drop 13 checks) refl (decides 2 checks a .1 .1 .1 .1 .1 .1 .1 .1 .1 .1 .1 .1) in
       let f = eqb-false (length host) (sent s) (not-true (eqb (length host) (sent s)) e) in
       (λ k n. f (rw (lt-ltb (byte 0 setup) 0x80 k) n), λ k n. f (rw (le-ltb (byte 0 setup) 0x80 k) (ap length n)))
 

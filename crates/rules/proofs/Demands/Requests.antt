@@ -14,7 +14,7 @@ use Rattle.rules.specs.declared.Setup.{Setup}
 use Rattle.rules.specs.Words.{byte, word, over}
 use Rattle.rules.specs.Held.{World, sizeOf}
 use Rattle.rules.specs.Requests.{Known, setupOf, requestOf, needsConfiguration, inBytes, inMemory, address, isA, storeOf}
-use Rattle.rules.specs.Answers.{requestAnswer, packetAnswer, reportAnswer, statusAnswer}
+use Rattle.rules.specs.Answers.{seenOf, requestAnswer, packetAnswer, reportAnswer, statusAnswer}
 use Rattle.rules.specs.Step.{Event, BusReset, Control, Packet, Report, StatusRequest, answer, bytesDone, memoryDone, done, change, step, rules}
 use Rattle.rules.specs.Demands.Requests.{WholeFields, Unconfigured, Holds, ExactWrites, NoOtherWrites, ExactReads}
 use Rattle.rules.proofs.Checks.{request-has, accepted-write}
@@ -114,7 +114,7 @@ unfolding step change
 exact-writes w setup host room sixteen i a =
     let pair = and-eq-true-iff (eqb (byte 0 setup) 0x40) (eqb (byte 1 setup) 0x01) .0 i in
     let load : requestOf (setupOf setup) ≡ Known LoadConfigData = is-load (setupOf setup) (eqb-true _ _ (pair .0)) (eqb-true _ _ (pair .1)) in
-    let p = accepted-write (w .bridge .configured) (sizeOf (w .memory)) setup (length host) room load a in
+    let p = accepted-write (seenOf w) (w .memory) setup (length host) room load a in
     rw (a, load)
     (held (sizeOf (w .memory)) (word 2 setup) (word 4 setup) (word 6 setup) (w .bytes) (w .memory) host sixteen (omega arith) (p .2) (p .0) (p .1))
 

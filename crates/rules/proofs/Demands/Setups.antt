@@ -8,33 +8,46 @@ use native.Mathlib.Omega.{arith}
 use lib.ListN.{length, drop-of-length-le}
 use lib.Dec.{eqb}
 use borrow.Author.Tests.{eqb-true, not-false}
-use Rattle.rules.specs.declared.Request.{Request}
 use Rattle.rules.specs.declared.Setup.{Setup}
 use Rattle.rules.specs.Words.{byte, word}
-use Rattle.rules.specs.Held.{sizeOf}
-use Rattle.rules.specs.Requests.{table, setupOf, requestOf}
+use Rattle.rules.specs.Requests.{Named, table, setupOf, requestOf, isUnknown}
+use Rattle.rules.specs.Answers.{seenOf}
 use Rattle.rules.specs.Step.{step, rules}
 use Rattle.rules.specs.Demands.Requests.{wire}
 use Rattle.rules.specs.Demands.WellFormed.{Bytes}
-use Rattle.rules.specs.Demands.Makers.{Asks, setConfiguration, getConfiguration, clearFeature, getStatus, getMaxLun, massStorageReset, loadConfigData, readConfigData, softReset, bogusRead, AskedIsFound, AcceptedWasAsked}
+use Rattle.rules.specs.Demands.Makers.{Asks, setConfiguration, getConfiguration, clearFeature, getStatus, getMaxLun, massStorageReset, loadConfigData, readConfigData, softReset, bogusRead, getDescriptor, AskedIsFound, AcceptedWasAsked}
 use Rattle.rules.proofs.Checks.{EachRow, _also_, request-each, request-passed}
 use Rattle.rules.proofs.Rows.{in-parts}
 
 pub asked-is-found : AskedIsFound (λ setup. requestOf (setupOf setup))
 unfolding requestOf
-asked-is-found setup r (setConfiguration v (inl e)) = rw e
-asked-is-found setup r (setConfiguration v (inr e)) = rw e
-asked-is-found setup r getConfiguration = refl
-asked-is-found setup r (clearFeature i (inl e)) = rw e
-asked-is-found setup r (clearFeature i (inr e)) = rw e
-asked-is-found setup r (getStatus i (inl e)) = rw e
-asked-is-found setup r (getStatus i (inr e)) = rw e
-asked-is-found setup r getMaxLun = refl
-asked-is-found setup r massStorageReset = refl
-asked-is-found setup r (loadConfigData place start n) = refl
-asked-is-found setup r (readConfigData place start n) = refl
-asked-is-found setup r softReset = refl
-asked-is-found setup r (bogusRead value index n) = refl
+asked-is-found setup q (setConfiguration v (inl e)) = rw e
+asked-is-found setup q (setConfiguration v (inr e)) = rw e
+asked-is-found setup q getConfiguration = refl
+asked-is-found setup q (clearFeature i (inl e)) = rw e
+asked-is-found setup q (clearFeature i (inr e)) = rw e
+asked-is-found setup q (getStatus i (inl e)) = rw e
+asked-is-found setup q (getStatus i (inr e)) = rw e
+asked-is-found setup q getMaxLun = refl
+asked-is-found setup q massStorageReset = refl
+asked-is-found setup q (loadConfigData place start n) = refl
+asked-is-found setup q (readConfigData place start n) = refl
+asked-is-found setup q softReset = refl
+asked-is-found setup q (bogusRead value index n) = refl
+asked-is-found setup q (getDescriptor value index n) = refl
+
+pub asked-known : {setup : List ℕ} {q : Named} → Asks setup q → isUnknown q ≡ false
+asked-known (setConfiguration value e) = refl
+asked-known getConfiguration = refl
+asked-known (clearFeature index e) = refl
+asked-known (getStatus index e) = refl
+asked-known getMaxLun = refl
+asked-known massStorageReset = refl
+asked-known (loadConfigData place start n) = refl
+asked-known (readConfigData place start n) = refl
+asked-known softReset = refl
+asked-known (bogusRead value index n) = refl
+asked-known (getDescriptor value index n) = refl
 
 -- eight bytes are the wire form of their fields
 rewired : (setup : List ℕ) → Bytes setup → length setup ≡ 8
@@ -62,8 +75,8 @@ module _ (setup : List ℕ) (whole : setup ≡ wire (byte 0 setup) (byte 1 setup
   s = setupOf setup
 
   -- a request that is made as the wire form of a setup's fields is made as the setup
-  asks : {r : Request} {k c v i n : ℕ} → s .kind ≡ k → s .code ≡ c → s .value ≡ v → s .index ≡ i → s .length ≡ n → Asks (wire k c v i n) r → Asks setup r
-  asks {r} k c v i n a = subst (λ (x : List ℕ). Asks x r) (sym (whole ∙ λ j. wire (k j) (c j) (v j) (i j) (n j))) a
+  asks : {q : Named} {k c v i n : ℕ} → s .kind ≡ k → s .code ≡ c → s .value ≡ v → s .index ≡ i → s .length ≡ n → Asks (wire k c v i n) q → Asks setup q
+  asks {q} k c v i n a = subst (λ (x : List ℕ). Asks x q) (sym (whole ∙ λ j. wire (k j) (c j) (v j) (i j) (n j))) a
 
   each-asks : EachRow (Asks setup) s table
   each-asks =
@@ -77,6 +90,7 @@ module _ (setup : List ℕ) (whole : setup ≡ wire (byte 0 setup) (byte 1 setup
       also (λ h. asks (h .kind) (h .code) refl refl refl (readConfigData (s .value) (s .index) (s .length)))
       also (λ h. asks (h .kind) (h .code) (fixed (h .value)) (fixed (h .index)) (fixed (h .length)) softReset)
       also (λ h. asks (h .kind) (h .code) refl refl refl (bogusRead (s .value) (s .index) (s .length)))
+      also (λ h. asks (h .kind) (h .code) refl refl refl (getDescriptor (s .value) (s .index) (s .length)))
       also tt
     where
       fixed : {x n : ℕ} → eqb x n ≡ true → x ≡ n
@@ -85,7 +99,6 @@ module _ (setup : List ℕ) (whole : setup ≡ wire (byte 0 setup) (byte 1 setup
 pub accepted-was-asked : AcceptedWasAsked rules
 unfolding step
 accepted-was-asked w setup host room h a =
-    let k = request-passed (w .bridge .configured) (sizeOf (w .memory)) setup (length host) room a in
+    let k = request-passed (seenOf w) (w .memory) setup (length host) room a in
     let s : Setup = setupOf setup in
-    let made = request-each (Asks setup) s (each-asks setup (rewired setup h (eqb-true _ 8 (not-false _ (k .0))))) (k .1 .1 .0) in
-    (made .0, made .2)
+    (requestOf s, request-each (Asks setup) s (each-asks setup (rewired setup h (eqb-true _ 8 (not-false _ (k .0))))) (k .1 .1 .0))

@@ -14,7 +14,7 @@ use Rattle.rules.specs.declared.Setup.{Setup}
 use Rattle.rules.specs.Words.{long}
 use Rattle.rules.specs.Held.{World, powered, isStopped}
 use Rattle.rules.specs.Changes.{made}
-use Rattle.rules.specs.Requests.{Named, Unknown, Known, setupOf, requestOf, changeBy}
+use Rattle.rules.specs.Requests.{Named, Unknown, Known, Describes, setupOf, requestOf, changeBy}
 use Rattle.rules.specs.Packets.{commandOf, signatureOf, recognises, commandTaken}
 use Rattle.rules.specs.Reports.{mismatch, residueOf, reportTaken}
 use Rattle.rules.specs.Step.{Event, BusReset, Control, Packet, Report, StatusRequest, answer, done, damaged, changeDone, change, step, rules, after}
@@ -51,6 +51,7 @@ request (Known LoadConfigData) s b = tt
 request (Known ReadConfigData) s b = tt
 request (Known SoftReset) s b = either Sized (isStopped (b .phase)) Nothing Awaits tt tt
 request (Known BogusRead) s b = tt
+request Describes s b = tt
 request Unknown s b = tt
 
 taken : (w : World) (e : Event) → Numbers (w .bridge .phase) → OfBytes e → Sized (changeDone w e)
@@ -88,4 +89,4 @@ run w [] n h = n
 run w (e ∷ es) n h = run (step w e .next) es (stepped w e n (h .0)) (h .1)
 
 pub stays-sized : StaysSized rules
-stays-sized memory history h = run (powered memory) history tt h
+stays-sized dock memory history h = run (powered dock memory) history tt h

@@ -11,7 +11,7 @@ use borrow.Author.Tests.{ltb-true, eqb-true, leb-true, eq-eqb, ne-eqb, lt-ltb, l
 use Rattle.rules.specs.Words.{over}
 use Rattle.rules.specs.Held.{World, world, sizeOf}
 use Rattle.rules.specs.Requests.{requestOf, inBytes, inMemory, address, atEight, onePage, storeOf}
-use Rattle.rules.specs.Answers.{requestAnswer}
+use Rattle.rules.specs.Answers.{seenOf, requestAnswer}
 use Rattle.rules.specs.Step.{Control, change, step, rules}
 use Rattle.rules.specs.Demands.Requests.{wire, asking}
 use Rattle.rules.specs.Demands.Coherence.{ReadWasThere, Replies, rowOf, ThereIsRead, WrittenIsRead, WritableIsWritten, WrittenWasWritable}
@@ -41,7 +41,7 @@ there-is-read w start n c = (
 pub read-was-there : ReadWasThere rules
 unfolding step requestOf address
 read-was-there w place start n host room a =
-    let k = request-passed (w .bridge .configured) (sizeOf (w .memory)) (wire 0xC0 0x02 place start n) (length host) room a in
+    let k = request-passed (seenOf w) (w .memory) (wire 0xC0 0x02 place start n) (length host) room a in
     let p = rw (whole place, whole start, whole n) at (k .1 .1 .1) in
     go (inMemory place) refl (not-false _ (p .0)) (not-false _ (p .1 .1 .0))
   where
@@ -93,7 +93,7 @@ wrote : (w : World) (place start : ℕ) (host : List ℕ) (room : ℕ)
 unfolding step change requestOf
 wrote w place start host room a =
     let n : ℕ = length host in
-    let k = request-passed (w .bridge .configured) (sizeOf (w .memory)) (wire 0x40 0x01 place start n) n room a in
+    let k = request-passed (seenOf w) (w .memory) (wire 0x40 0x01 place start n) n room a in
     let p = rw (whole place, whole start, whole n) at (k .1) in
     record {
       configured = needed (w .bridge .configured) (p .0);

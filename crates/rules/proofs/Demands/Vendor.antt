@@ -11,10 +11,10 @@ use Rattle.rules.specs.declared.Change.the-variants.{Nothing}
 use Rattle.rules.specs.declared.Phase.the-variants.{Stopped}
 use Rattle.rules.specs.declared.Request.the-variants.{SetConfiguration, GetConfiguration, ClearFeature, GetStatus, GetMaxLun, MassStorageReset, LoadConfigData, ReadConfigData, SoftReset, BogusRead}
 use Rattle.rules.specs.declared.Setup.{Setup}
-use Rattle.rules.specs.Held.{world, sizeOf, inPhase, halted}
+use Rattle.rules.specs.Held.{world, inPhase, halted}
 use Rattle.rules.specs.Changes.{made}
-use Rattle.rules.specs.Requests.{Named, Unknown, Known, isUnknown, setupOf, requestOf, isA, hasPlace, replyTo, changeBy}
-use Rattle.rules.specs.Answers.{requestAnswer}
+use Rattle.rules.specs.Requests.{Named, Unknown, Known, Describes, isUnknown, setupOf, requestOf, isA, hasPlace, replyTo, changeBy}
+use Rattle.rules.specs.Answers.{seenOf, requestAnswer}
 use Rattle.rules.specs.Step.{change, step, rules, done}
 use Rattle.rules.specs.Demands.Boundary.{VendorInStop}
 use Rattle.rules.proofs.Checks.{request-undamaged, request-has}
@@ -42,6 +42,7 @@ module _ (b : Bridge) (bytes memory : List ℕ) (reset out back : Bool) (s : Set
   alike (Known ReadConfigData) true v = (refl, refl)
   alike (Known SoftReset) true v = (refl, refl)
   alike (Known BogusRead) true v = (refl, refl)
+  alike Describes true v = absurd (false≢true v)
   alike Unknown true v = (refl, refl)
 
 pub vendor-in-stop : VendorInStop rules
@@ -49,6 +50,6 @@ unfolding step change
 vendor-in-stop w t reset out back setup host room e k =
     let s = setupOf setup in
     let v = request-has (λ kind code. eqb (kind / 32 % 4) 2) vendor s (eq-eqb _ 2 k) refl in
-    let accepted = done (requestAnswer (w .bridge .configured) (sizeOf (w .memory)) setup (length host) room) in
+    let accepted = done (requestAnswer (seenOf w) (w .memory) setup (length host) room) in
     let a = alike (w .bridge) (w .bytes) (w .memory) reset out back s (requestOf s) accepted v in
     rw (e, request-undamaged) (refl, a .0, rw (a .1))

@@ -18,12 +18,12 @@ use Rattle.rules.specs.declared.Phase.the-variants.{Awaiting, Busy, Stat
 use Rattle.rules.specs.declared.Request.the-variants.{SetConfiguration, GetConfiguration, ClearFeature, GetStatus, GetMaxLun, MassStorageReset, LoadConfigData, ReadConfigData, SoftReset, BogusRead}
 use Rattle.rules.specs.declared.Setup.{Setup}
 use Rattle.rules.specs.Words.{over}
-use Rattle.rules.specs.Held.{World, world, powered, powerOnBytes, bulkOut, marks, inPhase, halting}
+use Rattle.rules.specs.Held.{World, world, powered, powerOnBytes, bulkOut, inPhase, halted, halting}
 use Rattle.rules.specs.Changes.{made}
 use Rattle.rules.specs.Packets.{commandOf, directionOf, signatureOf, recognises, commandTaken}
 use Rattle.rules.specs.Reports.{malformed, mismatch, statusOf, residueOf, haltsPipe, reportTaken}
 use Rattle.rules.specs.Stopping.{clearsPipe, massStorageReset, softReset}
-use Rattle.rules.specs.Requests.{Named, Unknown, Known, setupOf, requestOf, inMemory, changeBy, bytesAfter, memoryAfter}
+use Rattle.rules.specs.Requests.{Named, Unknown, Known, Describes, setupOf, requestOf, inMemory, changeBy, bytesAfter, memoryAfter}
 use Rattle.rules.specs.Answers.{reportChecks, reportAnswer}
 use Rattle.rules.specs.Step.{Event, BusReset, Control, Packet, Report, StatusRequest, change, step, rules, after, answer, done, damaged, changeDone, bytesDone, memoryDone}
 use Rattle.rules.specs.Demands.WellFormed.{Bytes, Proper, ProperAll, sound, WellFormed, StaysWellFormed}
@@ -60,41 +60,41 @@ abbrev Sound : Bridge → Type 0
 Sound b = sound (b .phase) (b .halts) ≡ true
 
 -- the bridge with this phase and these halts
-abbrev with : Bool → Phase → Bool → Bool → Bridge
-with c p o i = record { configured = c; phase = p; halts = marks o i }
+abbrev with : Bridge → Phase → Bool → Bool → Bridge
+with b p o i = inPhase p (halted o i b)
 
 -- Mass Storage Reset, SOFT_RESET
-sound-reset : (c : Bool) (p : Phase) (o i : Bool) → Sound (with c p o i) → Sound (made (massStorageReset p) (with c p o i))
-sound-reset c Awaiting o i s = refl
-sound-reset c (Busy d tag l) o i s = refl
-sound-reset c (StatusWaiting tag residue status) o i s = refl
-sound-reset c (Stopped false) o i s = rw (and-eq-true-iff o i .0 s .0)
-sound-reset c (Stopped true) o i s = s
+sound-reset : (b : Bridge) (p : Phase) (o i : Bool) → Sound (with b p o i) → Sound (made (massStorageReset p) (with b p o i))
+sound-reset b Awaiting o i s = refl
+sound-reset b (Busy d tag l) o i s = refl
+sound-reset b (StatusWaiting tag residue status) o i s = refl
+sound-reset b (Stopped false) o i s = rw (and-eq-true-iff o i .0 s .0)
+sound-reset b (Stopped true) o i s = s
 
-sound-soft : (c : Bool) (p : Phase) (o i : Bool) → Sound (with c p o i) → Sound (made (softReset p) (with c p o i))
-sound-soft c Awaiting o i s = refl
-sound-soft c (Busy d tag l) o i s = refl
-sound-soft c (StatusWaiting tag residue status) o i s = refl
-sound-soft c (Stopped reset) o i s = s
+sound-soft : (b : Bridge) (p : Phase) (o i : Bool) → Sound (with b p o i) → Sound (made (softReset p) (with b p o i))
+sound-soft b Awaiting o i s = refl
+sound-soft b (Busy d tag l) o i s = refl
+sound-soft b (StatusWaiting tag residue status) o i s = refl
+sound-soft b (Stopped reset) o i s = s
 
 -- Clear Feature, of either pipe
-sound-out : (c : Bool) (p : Phase) (o i : Bool) → Sound (with c p o i) → Sound (made (clearsPipe p Out i) (with c p o i))
-sound-out c Awaiting o i s = refl
-sound-out c (Busy Out tag l) o i s = s
-sound-out c (Busy In tag l) o i s = s
-sound-out c (StatusWaiting tag residue status) o i s = s
-sound-out c (Stopped false) o i s = s
-sound-out c (Stopped true) o true s = refl
-sound-out c (Stopped true) o false s = refl
+sound-out : (b : Bridge) (p : Phase) (o i : Bool) → Sound (with b p o i) → Sound (made (clearsPipe p Out i) (with b p o i))
+sound-out b Awaiting o i s = refl
+sound-out b (Busy Out tag l) o i s = s
+sound-out b (Busy In tag l) o i s = s
+sound-out b (StatusWaiting tag residue status) o i s = s
+sound-out b (Stopped false) o i s = s
+sound-out b (Stopped true) o true s = refl
+sound-out b (Stopped true) o false s = refl
 
-sound-in : (c : Bool) (p : Phase) (o i : Bool) → Sound (with c p o i) → Sound (made (clearsPipe p In o) (with c p o i))
-sound-in c Awaiting o i s = refl
-sound-in c (Busy Out tag l) o i s = s
-sound-in c (Busy In tag l) o i s = s
-sound-in c (StatusWaiting tag residue status) o i s = s
-sound-in c (Stopped false) o i s = s
-sound-in c (Stopped true) true i s = refl
-sound-in c (Stopped true) false i s = refl
+sound-in : (b : Bridge) (p : Phase) (o i : Bool) → Sound (with b p o i) → Sound (made (clearsPipe p In o) (with b p o i))
+sound-in b Awaiting o i s = refl
+sound-in b (Busy Out tag l) o i s = s
+sound-in b (Busy In tag l) o i s = s
+sound-in b (StatusWaiting tag residue status) o i s = s
+sound-in b (Stopped false) o i s = s
+sound-in b (Stopped true) true i s = refl
+sound-in b (Stopped true) false i s = refl
 
 -- a command, by whether L > 0 and whether its flags say in
 sound-busy : (tag l : ℕ) (z x : Bool) (h : Halts) → ltb 0 l ≡ z → sound (Busy (cond (z && x) In Out) tag l) h ≡ true
@@ -149,8 +149,8 @@ module _ (w : World) (g : WellFormed w) where
 
   -- Clear Feature, by whether it names bulk out
   clear : (t : Bool) → Sound (made (cond t (clearsPipe (b .phase) Out (b .halts .inward)) (clearsPipe (b .phase) In (b .halts .outward))) b)
-  clear true = sound-out (b .configured) (b .phase) (b .halts .outward) (b .halts .inward) (g .phase)
-  clear false = sound-in (b .configured) (b .phase) (b .halts .outward) (b .halts .inward) (g .phase)
+  clear true = sound-out b (b .phase) (b .halts .outward) (b .halts .inward) (g .phase)
+  clear false = sound-in b (b .phase) (b .halts .outward) (b .halts .inward) (g .phase)
 
   -- a write, by whether its place is the memory
   write : (start : ℕ) (host : List ℕ) → Bytes host → (t : Bool)
@@ -173,11 +173,12 @@ module _ (w : World) (g : WellFormed w) where
   request (Known GetStatus) s host h = g
   request (Known GetMaxLun) s host h = g
   request (Known MassStorageReset) s host h =
-      keeps _ (sound-reset (b .configured) (b .phase) (b .halts .outward) (b .halts .inward) (g .phase))
+      keeps _ (sound-reset b (b .phase) (b .halts .outward) (b .halts .inward) (g .phase))
   request (Known LoadConfigData) s host h = write (s .index) host h (inMemory (s .value))
   request (Known ReadConfigData) s host h = g
-  request (Known SoftReset) s host h = keeps _ (sound-soft (b .configured) (b .phase) (b .halts .outward) (b .halts .inward) (g .phase))
+  request (Known SoftReset) s host h = keeps _ (sound-soft b (b .phase) (b .halts .outward) (b .halts .inward) (g .phase))
   request (Known BogusRead) s host h = g
+  request Describes s host h = g
   request Unknown s host h = g
 
   -- an event that is answered 0
@@ -211,5 +212,5 @@ run w [] g h = g
 run w (e ∷ es) g h = run (step w e .next) es (stepped w g e (h .0)) (h .1)
 
 pub stays-well-formed : StaysWellFormed rules
-stays-well-formed memory history m h =
-    run (powered memory) history (record { sixteen = refl; bytes = bytes-tested powerOnBytes refl; memory = m; phase = refl }) h
+stays-well-formed dock memory history m h =
+    run (powered dock memory) history (record { sixteen = refl; bytes = bytes-tested powerOnBytes refl; memory = m; phase = refl }) h

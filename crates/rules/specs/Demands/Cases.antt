@@ -108,6 +108,7 @@ alsoHalted halts way h =
 abbrev pub caseLeaves : Case → Direction → ℕ → ℕ → ℕ → ℕ → Bridge → Bridge
 caseLeaves c host tag l failed amount b =
     record {
+      dock = b .dock;
       configured = b .configured;
       phase = StatusWaiting tag ((c .residue) l amount) (cond (c .own) failed 2);
       halts = alsoHalted (c .halts) (wayOf host) (b .halts);

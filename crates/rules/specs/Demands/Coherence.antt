@@ -8,6 +8,7 @@ use lib.ListN.{length, take, drop, replicate}
 use lib.Dec.{eqb, ltb}
 use Rattle.rules.specs.declared.Direction.{Direction}
 use Rattle.rules.specs.declared.Direction.the-variants.{Out, In}
+use Rattle.rules.specs.declared.Dock.{Dock}
 use Rattle.rules.specs.declared.Phase.the-variants.{Awaiting}
 use Rattle.rules.specs.Words.{byte, word, one}
 use Rattle.rules.specs.Held.{World, world, isStopped}
@@ -38,14 +39,19 @@ configured m s (e ∷ es) c = configured m (m .takes s e .next) es (cond (done (
 -- After any history Get Configuration replies what the last bus reset or accepted Set Configuration left, at power-on 0, as one byte.
 abbrev pub ConfigurationIsTold : Machine → Type 0
 ConfigurationIsTold m =
-    (memory : List ℕ) (history : List Event)
-    → Replies (m .takes (reached m memory history) (asking 0x80 0x08 0 0 1)) (configured m (m .on memory) history 0 ∷ [])
+    (dock : Dock) (memory : List ℕ) (history : List Event)
+    → Replies (m .takes (reached m dock memory history) (asking 0x80 0x08 0 0 1)) (configured m (m .on dock memory) history 0 ∷ [])
 
--- "A bus reset restores those three; configuration bytes and memory stay": the bridge is that of power-on.
+-- "A bus reset restores those three; configuration bytes and memory stay": the bridge is that of the dock's power-on.
 abbrev pub BusResetIsPowerOn : Machine → Type 0
 BusResetIsPowerOn m =
     (s : m .State) (memory : List ℕ)
-    → m .shows (m .takes s BusReset .next) ≡ world (m .shows (m .on memory) .bridge) (m .shows s .bytes) (m .shows s .memory)
+    → (let w : World = m .shows s in
+    m .shows (m .takes s BusReset .next) ≡ world (m .shows (m .on (w .bridge .dock) memory) .bridge) (w .bytes) (w .memory))
+
+-- What is fixed at power-on stays so.
+abbrev pub DockIsFixed : Machine → Type 0
+DockIsFixed m = (dock : Dock) (memory : List ℕ) (history : List Event) → m .shows (reached m dock memory history) .bridge .dock ≡ dock
 
 -- Set Configuration, of any bridge, leaves what a bus reset and then it leave; of 0, what a bus reset leaves.
 abbrev pub ConfigurationRestarts : Machine → Type 0
@@ -60,8 +66,8 @@ ConfigurationRestarts m =
 -- "At power-on all are 0, but 0x04 is 0x24", as a host reads it once it has configured the bridge
 abbrev pub PowerOnIsRead : Machine → Type 0
 PowerOnIsRead m =
-    (memory : List ℕ)
-    → Replies (m .takes (reached m memory (ordering 0x00 0x09 2 0 ∷ [])) (asking 0xC0 0x02 0 0 16))
+    (dock : Dock) (memory : List ℕ)
+    → Replies (m .takes (reached m dock memory (ordering 0x00 0x09 2 0 ∷ [])) (asking 0xC0 0x02 0 0 16))
     (0 ∷ 0 ∷ 0 ∷ 0 ∷ 0x24 ∷ 0 ∷ 0 ∷ 0 ∷ 0 ∷ 0 ∷ 0 ∷ 0 ∷ 0 ∷ 0 ∷ 0 ∷ 0 ∷ [])
 
 -- ---- pipes

@@ -5,6 +5,7 @@ use mathlib.Core.List.{List, [], _∷_}
 use Prim.Native.Nat.{ℕ}
 use lib.ListN.{length, replicate}
 use lib.Dec.{eqb}
+use Rattle.rules.specs.declared.Dock.{Dock}
 use Rattle.rules.specs.declared.Phase.{Phase}
 use Rattle.rules.specs.declared.Phase.the-variants.{Awaiting, Busy, StatusWaiting, Stopped}
 use Rattle.rules.specs.Held.{World, bulkOut, bulkIn}
@@ -31,13 +32,13 @@ abbrev pub identify : ℕ → Event
 identify action = Packet (identifying action) 11
 
 -- "Configured, M = 2,048 unless told."
-abbrev pub ready : (m : Machine) → m .State
-ready m = reached m (replicate 2048 0xFF) (configure ∷ [])
+abbrev pub ready : (m : Machine) → Dock → m .State
+ready m dock = reached m dock (replicate 2048 0xFF) (configure ∷ [])
 
 -- ---- what is right of an outcome, with what shows of the state that it leaves
 
 abbrev pub shown : (m : Machine) → Outcome (m .State) → Outcome World
-shown m o = record { answer = o .answer; reply = o .reply; operations = o .operations; next = m .shows (o .next) }
+shown m o = record { answer = o .answer; reply = o .reply; stands = o .stands; operations = o .operations; next = m .shows (o .next) }
 
 abbrev pub sameBytes : List ℕ → List ℕ → Bool
 sameBytes [] [] = true
@@ -87,12 +88,12 @@ table =
     example (identify 0x80 ∷ []) (Report 2 0 1) (reports 512 2) ∷
     []
 
-abbrev pub right : Machine → List Example → Bool
-right m [] = true
-right m (x ∷ xs) = (x .wants) (shown m (m .takes (after m (ready m) (x .before)) (x .event))) && right m xs
+abbrev pub right : Machine → Dock → List Example → Bool
+right m dock [] = true
+right m dock (x ∷ xs) = (x .wants) (shown m (m .takes (after m (ready m dock) (x .before)) (x .event))) && right m dock xs
 
 abbrev pub Examples : Machine → Type 0
-Examples m = right m table ≡ true
+Examples m = (dock : Dock) → right m dock table ≡ true
 
 -- ---- Demand 3 is not empty: a damaged packet, then a status request, a vendor write, Clear Feature too early, a packet, a Mass Storage Reset,
 -- one pipe, a second reset, the same pipe again, none of them the boundary; then the other pipe, which is; and the next command is done.
@@ -107,9 +108,9 @@ abbrev pub since : List Event
 since =
     StatusRequest 13 ∷ write 2 248 8 ∷ clear bulkOut ∷ clear bulkIn ∷ identify 0x80 ∷ reset ∷ clear bulkIn ∷ reset ∷ clear bulkIn ∷ []
 
-abbrev pub story : Machine → Bool
-story m =
-    let d : Outcome (m .State) = m .takes (ready m) (Packet [] 11) in
+abbrev pub story : Machine → Dock → Bool
+story m dock =
+    let d : Outcome (m .State) = m .takes (ready m dock) (Packet [] 11) in
     let s : m .State = after m (d .next) since in
     answers 13 (shown m d)
     && unbroken m (d .next) since
@@ -118,4 +119,4 @@ story m =
     && makes (0x0100 ∷ 0x02E0 ∷ 0x17EC ∷ 0x0311 ∷ 0x2700 ∷ []) (shown m (m .takes (m .takes s (clear bulkOut) .next) (identify 0x80)))
 
 abbrev pub Story : Machine → Type 0
-Story m = story m ≡ true
+Story m = (dock : Dock) → story m dock ≡ true

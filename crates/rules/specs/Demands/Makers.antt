@@ -11,11 +11,10 @@ use Rattle.rules.specs.declared.CommandPacket.{CommandPacket}
 use Rattle.rules.specs.declared.Direction.{Direction}
 use Rattle.rules.specs.declared.Direction.the-variants.{Out, In}
 use Rattle.rules.specs.declared.Phase.the-variants.{Awaiting, Busy}
-use Rattle.rules.specs.declared.Request.{Request}
 use Rattle.rules.specs.declared.Request.the-variants.{SetConfiguration, GetConfiguration, ClearFeature, GetStatus, GetMaxLun, MassStorageReset, LoadConfigData, ReadConfigData, SoftReset, BogusRead}
 use Rattle.rules.specs.Words.{byte, bit, one}
 use Rattle.rules.specs.Held.{World, world, inPhase}
-use Rattle.rules.specs.Requests.{Named, Known}
+use Rattle.rules.specs.Requests.{Named, Known, Describes}
 use Rattle.rules.specs.Step.{Control, Packet, Machine}
 use Rattle.rules.specs.Demands.Requests.{wire}
 use Rattle.rules.specs.Demands.WellFormed.{Bytes}
@@ -157,24 +156,25 @@ abbrev pub Pipe : ℕ → Type 0
 Pipe index = (index ≡ 0x01) ⊎ (index ≡ 0x82)
 
 -- how a host makes each request of the table
-pub data Asks : List ℕ → Request → Type 0 where
-  setConfiguration : (value : ℕ) → (value ≡ 0) ⊎ (value ≡ 2) → Asks (wire 0x00 0x09 value 0 0) SetConfiguration
-  getConfiguration : Asks (wire 0x80 0x08 0 0 1) GetConfiguration
-  clearFeature : (index : ℕ) → Pipe index → Asks (wire 0x02 0x01 0 index 0) ClearFeature
-  getStatus : (index : ℕ) → Pipe index → Asks (wire 0x82 0x00 0 index 2) GetStatus
-  getMaxLun : Asks (wire 0xA1 0xFE 0 0 1) GetMaxLun
-  massStorageReset : Asks (wire 0x21 0xFF 0 0 0) MassStorageReset
-  loadConfigData : (place start n : ℕ) → Asks (wire 0x40 0x01 place start n) LoadConfigData
-  readConfigData : (place start n : ℕ) → Asks (wire 0xC0 0x02 place start n) ReadConfigData
-  softReset : Asks (wire 0x40 0x03 0 0 0) SoftReset
-  bogusRead : (value index n : ℕ) → Asks (wire 0xC0 0x01 value index n) BogusRead
+pub data Asks : List ℕ → Named → Type 0 where
+  setConfiguration : (value : ℕ) → (value ≡ 0) ⊎ (value ≡ 2) → Asks (wire 0x00 0x09 value 0 0) (Known SetConfiguration)
+  getConfiguration : Asks (wire 0x80 0x08 0 0 1) (Known GetConfiguration)
+  clearFeature : (index : ℕ) → Pipe index → Asks (wire 0x02 0x01 0 index 0) (Known ClearFeature)
+  getStatus : (index : ℕ) → Pipe index → Asks (wire 0x82 0x00 0 index 2) (Known GetStatus)
+  getMaxLun : Asks (wire 0xA1 0xFE 0 0 1) (Known GetMaxLun)
+  massStorageReset : Asks (wire 0x21 0xFF 0 0 0) (Known MassStorageReset)
+  loadConfigData : (place start n : ℕ) → Asks (wire 0x40 0x01 place start n) (Known LoadConfigData)
+  readConfigData : (place start n : ℕ) → Asks (wire 0xC0 0x02 place start n) (Known ReadConfigData)
+  softReset : Asks (wire 0x40 0x03 0 0 0) (Known SoftReset)
+  bogusRead : (value index n : ℕ) → Asks (wire 0xC0 0x01 value index n) (Known BogusRead)
+  getDescriptor : (value index n : ℕ) → Asks (wire 0x80 0x06 value index n) Describes
 
 -- A setup so made is taken for that request.
 abbrev pub AskedIsFound : (List ℕ → Named) → Type 0
-AskedIsFound find = (setup : List ℕ) (r : Request) → Asks setup r → find setup ≡ Known r
+AskedIsFound find = (setup : List ℕ) (q : Named) → Asks setup q → find setup ≡ q
 
 -- An accepted request was made so.
 abbrev pub AcceptedWasAsked : Machine → Type 0
 AcceptedWasAsked m =
     (s : m .State) (setup host : List ℕ) (room : ℕ) → Bytes setup → m .takes s (Control setup host room) .answer ≡ 0
-    → (r : Request) × Asks setup r
+    → (q : Named) × Asks setup q

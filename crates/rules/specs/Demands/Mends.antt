@@ -5,6 +5,9 @@ use mathlib.Core.Bool.{true}
 use mathlib.Core.List.{List, []}
 use Prim.Native.Nat.{ℕ, _<_, _≤_}
 use lib.ListN.{length}
+use Rattle.rules.specs.declared.Stands.{Stands}
+use Rattle.rules.specs.declared.Stands.the-variants.{InRoom, InMemory}
+use Rattle.rules.specs.declared.addresses.Address.{Address}
 use Rattle.rules.specs.Words.{byte, word}
 use Rattle.rules.specs.Step.{Control, Packet, Report, StatusRequest, Machine}
 use Rattle.rules.specs.Demands.Refusals.{damages}
@@ -25,21 +28,23 @@ RoomIsEnough m =
     (s : m .State) (p : List ℕ) (room : ℕ)
     → (let o = m .takes s (Packet p room) in o .answer ≡ 0 → m .takes s (Packet p (length (o .operations))) .answer ≡ 0)
 
--- .. and it is needed.
+-- .. and it is needed, of what is to stand there.
 abbrev pub RoomSuffices : Machine → Type 0
 RoomSuffices m =
     (s : m .State) (setup host p : List ℕ) (room : ℕ) → length (m .shows s .bytes) ≡ 16
-    → (m .takes s (Control setup host room) .answer ≡ 0 → length (m .takes s (Control setup host room) .reply) ≤ room)
+    → (let o = m .takes s (Control setup host room) in o .answer ≡ 0 → o .stands ≡ InRoom → length (o .reply) ≤ room)
     × (m .takes s (StatusRequest room) .answer ≡ 0 → length (m .takes s (StatusRequest room) .reply) ≤ room)
     × (m .takes s (Packet p room) .answer ≡ 0 → length (m .takes s (Packet p room) .operations) ≤ room)
 
--- "On 0, reply or operations stand at the front of the lent room and the rest is unchanged."
-abbrev pub FrontOfRoom : (List ℕ → List ℕ → List ℕ) → Type 0
+-- "On 0, reply or operations stand at the front of the lent room and the rest is unchanged." Of a part of the memory "the reply buffer is then
+-- unchanged".
+abbrev pub FrontOfRoom : (Stands → List ℕ → List ℕ → List ℕ) → Type 0
 FrontOfRoom lay =
     (out room : List ℕ) (k : ℕ) → length out ≤ length room
-    → (length (lay out room) ≡ length room)
-    × (k < length out → byte k (lay out room) ≡ byte k out)
-    × (length out ≤ k → byte k (lay out room) ≡ byte k room)
+    → (length (lay InRoom out room) ≡ length room)
+    × (k < length out → byte k (lay InRoom out room) ≡ byte k out)
+    × (length out ≤ k → byte k (lay InRoom out room) ≡ byte k room)
+    × ((at : Address) → lay (InMemory at) out room ≡ room)
 
 -- 2: wLength bytes from a host that sends, none from one that asks; in either case with room.
 abbrev pub DataMends : Machine → Type 0

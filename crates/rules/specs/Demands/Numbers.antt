@@ -4,8 +4,8 @@ use mathlib.Core.List.{List, []}
 use mathlib.Core.Bool.{false}
 use Prim.Native.Nat.{ℕ, _<_, _≤_}
 use lib.ListN.{length}
-use Rattle.rules.specs.declared.Request.{Request}
 use Rattle.rules.specs.Words.{byte, word}
+use Rattle.rules.specs.Requests.{Named}
 use Rattle.rules.specs.Step.{Event, Control, Packet, Report, StatusRequest, Machine}
 use Rattle.rules.specs.Demands.Makers.{Asks}
 use Rattle.rules.specs.Demands.Coherence.{NoPacket, NoReport, NoStatus}
@@ -18,7 +18,7 @@ RequestNumbers m =
     → (let n = m .takes s (Control setup host room) .answer in
     (n ≡ 1 → length setup ≡ 8 → ⊥)
     × (n ≡ 4 → length setup ≡ 8)
-    × (n ≡ 5 → (length setup ≡ 8) × ((r : Request) → Asks setup r → ⊥))
+    × (n ≡ 5 → (length setup ≡ 8) × ((q : Named) → Asks setup q → ⊥))
     × (n ≡ 6 → (word 2 setup ≡ 0x0000 → ⊥) × (word 2 setup ≡ 0x0002 → ⊥))
     × (n ≡ 2 → (byte 0 setup < 0x80 → length host ≡ word 6 setup → ⊥) × (0x80 ≤ byte 0 setup → host ≡ [] → ⊥)))
 

@@ -5,6 +5,7 @@ use mathlib.Core.List.{List, [], _∷_}
 use Prim.Native.Nat.{ℕ}
 use lib.Dec.{eqb}
 use Rattle.rules.specs.declared.Change.the-variants.{Nothing, Stops}
+use Rattle.rules.specs.declared.Stands.the-variants.{InRoom}
 use Rattle.rules.specs.Held.{World, world}
 use Rattle.rules.specs.Changes.{made}
 use Rattle.rules.specs.Step.{Event, BusReset, Control, Packet, Report, StatusRequest, Machine}
@@ -20,14 +21,15 @@ Refusals m =
     (s : m .State) (e : Event) → (m .takes s e .answer ≡ 0 → ⊥)
     → (let w : World = m .shows s in
     (m .takes s e .reply ≡ [])
+    × (m .takes s e .stands ≡ InRoom)
     × (m .takes s e .operations ≡ [])
     × (m .shows (m .takes s e .next)
     ≡ world (made (cond (damages (m .takes s e .answer)) Stops Nothing) (w .bridge)) (w .bytes) (w .memory)))
 
--- "Each refusal has its number in document 01."
+-- "Each refusal has its number in document 01", and in 02 what its requests add.
 abbrev pub numbers : Event → List ℕ
 numbers BusReset = 0 ∷ []
-numbers (Control setup host room) = 0 ∷ 1 ∷ 4 ∷ 5 ∷ 6 ∷ 7 ∷ 8 ∷ 9 ∷ 10 ∷ 2 ∷ 3 ∷ []
+numbers (Control setup host room) = 0 ∷ 1 ∷ 4 ∷ 5 ∷ 6 ∷ 7 ∷ 8 ∷ 9 ∷ 10 ∷ 18 ∷ 19 ∷ 2 ∷ 3 ∷ []
 numbers (Packet p room) = 0 ∷ 4 ∷ 11 ∷ 16 ∷ 13 ∷ 14 ∷ 15 ∷ []
 numbers (Report direction failed amount) = 0 ∷ 4 ∷ 16 ∷ 17 ∷ []
 numbers (StatusRequest room) = 0 ∷ 4 ∷ 11 ∷ 16 ∷ 3 ∷ []

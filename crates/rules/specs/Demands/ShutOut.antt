@@ -5,6 +5,7 @@ use Prim.Native.Nat.{ℕ}
 use lib.ListN.{length, replicate}
 use lib.Dec.{ltb}
 use Rattle.rules.specs.declared.Phase.the-variants.{StatusWaiting}
+use Rattle.rules.specs.declared.Stands.the-variants.{InRoom}
 use Rattle.rules.specs.Held.{World, world, powered, inPhase, isStopped}
 use Rattle.rules.specs.Packets.{commandOf}
 use Rattle.rules.specs.Step.{Event, BusReset, Control, Packet, Report, StatusRequest, Outcome, Machine, damaged, given, step}
@@ -19,18 +20,18 @@ acting takes = record { State = World; on = powered; shows = λ w. w; takes = ta
 
 -- an outcome with its reply, its operations or its state changed
 abbrev replying : List ℕ → Outcome World → Outcome World
-replying r o = record { answer = o .answer; reply = r; operations = o .operations; next = o .next }
+replying r o = record { answer = o .answer; reply = r; stands = o .stands; operations = o .operations; next = o .next }
 
 abbrev operating : List ℕ → Outcome World → Outcome World
-operating p o = record { answer = o .answer; reply = o .reply; operations = p; next = o .next }
+operating p o = record { answer = o .answer; reply = o .reply; stands = o .stands; operations = p; next = o .next }
 
 abbrev leaving : {State : Type 0} → State → Outcome World → Outcome State
-leaving s o = record { answer = o .answer; reply = o .reply; operations = o .operations; next = s }
+leaving s o = record { answer = o .answer; reply = o .reply; stands = o .stands; operations = o .operations; next = s }
 
 -- "a bridge that STALLs everything"
 abbrev stalls : World → Event → Outcome World
 stalls w BusReset = step w BusReset
-stalls w (Control setup host room) = record { answer = 5; reply = []; operations = []; next = w }
+stalls w (Control setup host room) = record { answer = 5; reply = []; stands = InRoom; operations = []; next = w }
 stalls w (Packet p room) = step w (Packet p room)
 stalls w (Report direction failed amount) = step w (Report direction failed amount)
 stalls w (StatusRequest room) = step w (StatusRequest room)
@@ -62,7 +63,7 @@ performing (w, performed) e =
     leaving (o .next, performed || ltb 0 (length (o .operations))) o
 
 abbrev pub performsFirst : Machine
-performsFirst = record { State = World × Bool; on = λ memory. (powered memory, false); shows = λ s. s .0; takes = performing }
+performsFirst = record { State = World × Bool; on = λ dock memory. (powered dock memory, false); shows = λ s. s .0; takes = performing }
 
 -- "A bridge that never stops"
 abbrev pub neverStops : Machine

@@ -3,6 +3,7 @@ use mathlib.Core.List.{List, [], _∷_}
 use Prim.Native.Nat.{ℕ, _^_, _<_}
 use Rattle.rules.specs.declared.Change.{Change}
 use Rattle.rules.specs.declared.Change.the-variants.{Nothing, Sets, Awaits, Begins, Finishes, Stops, Notes, Clears, Ends}
+use Rattle.rules.specs.declared.Dock.{Dock}
 use Rattle.rules.specs.declared.Phase.{Phase}
 use Rattle.rules.specs.declared.Phase.the-variants.{Awaiting, Busy, StatusWaiting, Stopped}
 use Rattle.rules.specs.Step.{Event, BusReset, Control, Packet, Report, StatusRequest, Machine, reached}
@@ -43,4 +44,4 @@ Sized Ends = Unit {0}
 
 abbrev pub StaysSized : Machine → Type 0
 StaysSized m =
-    (memory : List ℕ) (history : List Event) → AllOfBytes history → Numbers (m .shows (reached m memory history) .bridge .phase)
+    (dock : Dock) (memory : List ℕ) (history : List Event) → AllOfBytes history → Numbers (m .shows (reached m dock memory history) .bridge .phase)

@@ -6,6 +6,7 @@ use Prim.Native.Nat.{ℕ, _<_}
 use lib.ListN.{length}
 use lib.Dec.{leb, ltb}
 use Rattle.rules.specs.declared.Direction.the-variants.{Out, In}
+use Rattle.rules.specs.declared.Dock.{Dock}
 use Rattle.rules.specs.declared.Halts.{Halts}
 use Rattle.rules.specs.declared.Phase.{Phase}
 use Rattle.rules.specs.declared.Phase.the-variants.{Awaiting, Busy, StatusWaiting, Stopped}
@@ -46,4 +47,4 @@ pub record WellFormed (w : World) : Type 0 where
 
 abbrev pub StaysWellFormed : Machine → Type 0
 StaysWellFormed m =
-    (memory : List ℕ) (history : List Event) → Bytes memory → ProperAll history → WellFormed (m .shows (reached m memory history))
+    (dock : Dock) (memory : List ℕ) (history : List Event) → Bytes memory → ProperAll history → WellFormed (m .shows (reached m dock memory history))
