@@ -1,8 +1,9 @@
-// What the crates above are written with: numbers from bytes, low byte first, and copying into a lent slice as far as it goes.
+// What the crates above are written with: numbers from bytes, low byte first; a part of a lent slice; and copying into one as far as it goes.
 ghost use mathlib.Core.Path.{_≡_};
 ghost use Prim.Native.Nat.{_+_, _*_, _≤_, min};
-ghost use lib.ListN.{length, take, drop, replicate};
+ghost use lib.ListN.{length, replicate};
 ghost use lib.Seq.{paste};
+ghost use Rattle.lent.specs.Parts.{PartOf};
 ghost use Rattle.rules.specs.Words.{bytes4, over};
 
 pub fn word(a: u8, b: u8) -> u16
@@ -55,14 +56,13 @@ pub fn copy(dst: &mut [u8], at: usize, src: &[u8])
     }
 }
 
-// Copies n bytes of src, from a place on, to the front of dst, as far as both go.
-pub fn copy_part(dst: &mut [u8], src: &[u8], from: usize, n: usize)
-    ensures { λ r. ⌜ now (dst .exit) ≡ over (now (dst .entry)) 0 (take n (drop from (now (src .entry)))) ⌝ }
+// n bytes of a slice, from a place on and as far as it goes.
+pub fn part<'a>(s: &'a [u8], from: usize, n: usize) -> &'a [u8]
+    ensures { λ r. ⌜ PartOf (s .entry) from n r ⌝ }
 {
-    if from <= src.len() {
-        let end = from + least(n, src.len() - from);
-        copy(dst, 0, &src[from..end]);
-    }
+    let start = least(from, s.len());
+    let end = start + least(n, s.len() - start);
+    &s[start..end]
 }
 
 // Clears n bytes at the front of dst, as far as it goes.
