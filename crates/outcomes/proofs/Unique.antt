@@ -1,6 +1,8 @@
 -- No second outcome: each public function's own contract has one.
 use mathlib.Core.Path.{refl, ap}
+use mathlib.Core.Bool.{false}
 use mathlib.Core.List.{[]}
+use Rattle.rules.specs.declared.Bridge.{Bridge}
 use Rattle.rules.specs.Held.{powerOn}
 use Rattle.rules.specs.Promise.{Left}
 use Rattle.rules.specs.OneOutcome.{OneOutcome}
@@ -18,7 +20,9 @@ abbrev pub outcomeOf : Left → Outcome
 outcomeOf l = outcome (l .answer) (l .count) (l .change)
 
 pub «bus_reset» : OneOutcome BusReset.Kinds.ps BusReset.Kinds.r BusReset.Reads.Post
-«bus_reset» κs a r r' left left' p q = (ap outcomeOf (only (p powerOn [] []) (q powerOn [] [])), refl)
+«bus_reset» κs a r r' left left' p q =
+    let any : Bridge = powerOn (record { «bus_powered» = false }) in
+    (ap outcomeOf (only (p any [] []) (q any [] [])), refl)
 
 pub refused : OneOutcome Refused.Kinds.ps Refused.Kinds.r Refused.Reads.Post
 refused κs a r r' left left' p q = (only p q, refl)

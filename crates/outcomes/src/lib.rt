@@ -4,7 +4,7 @@ ghost use mathlib.Core.Path.{_≡_};
 ghost use mathlib.Core.List.{[]};
 ghost use Rattle.outcomes.specs.Outcomes.{outcome, Answers};
 ghost use mathlib.Core.Bool.{true, false};
-ghost use Rattle.rules.specs.Held.{marks, inPhase, halted as marked, halting, clearing, isStopped};
+ghost use Rattle.rules.specs.Held.{configuring, inPhase, halted as marked, halting, clearing, isStopped};
 ghost use Rattle.rules.specs.Changes.{made};
 ghost use Rattle.rules.specs.Step.{BusReset};
 use rules::Bridge;
@@ -69,7 +69,9 @@ pub fn is_stopped(phase: Phase) -> bool
 fn in_phase(next: Phase, b: Bridge) -> Bridge
     ensures { λ r. ⌜ r ≡ inPhase next b ⌝ }
 {
+    let dock = b.dock;
     Bridge {
+        dock: dock,
         configured: b.configured,
         phase: next,
         halts: Halts {
@@ -82,8 +84,10 @@ fn in_phase(next: Phase, b: Bridge) -> Bridge
 fn halted(outward: bool, inward: bool, b: Bridge) -> Bridge
     ensures { λ r. ⌜ r ≡ marked outward inward b ⌝ }
 {
+    let dock = b.dock;
     let phase = b.phase;
     Bridge {
+        dock: dock,
         configured: b.configured,
         phase: phase,
         halts: Halts {
@@ -113,10 +117,12 @@ fn clear(direction: Direction, b: Bridge) -> Bridge
 }
 
 // Awaiting, no halts.
-fn fresh(configured: bool) -> Bridge
-    ensures { λ r. ⌜ r ≡ record { configured = configured; phase = Phase.Awaiting; halts = marks false false } ⌝ }
+fn fresh(configured: bool, b: Bridge) -> Bridge
+    ensures { λ r. ⌜ r ≡ configuring configured (inPhase Phase.Awaiting (marked false false b)) ⌝ }
 {
+    let dock = b.dock;
     Bridge {
+        dock: dock,
         configured: configured,
         phase: Phase::Awaiting,
         halts: Halts {
@@ -132,7 +138,7 @@ pub fn changed(change: Change, b: Bridge) -> Bridge
 {
     match change {
         Change::Nothing => b,
-        Change::Sets(configured) => fresh(configured),
+        Change::Sets(configured) => fresh(configured, b),
         Change::Awaits => in_phase(Phase::Awaiting, b),
         Change::Begins {
             direction,
@@ -163,6 +169,6 @@ pub fn changed(change: Change, b: Bridge) -> Bridge
         Change::Stops => in_phase(Phase::Stopped { reset: false }, halted(true, true, b)),
         Change::Notes => in_phase(Phase::Stopped { reset: true }, b),
         Change::Clears(direction) => clear(direction, b),
-        Change::Ends => fresh(b.configured),
+        Change::Ends => fresh(b.configured, b),
     }
 }
