@@ -1,0 +1,16 @@
+-- What a search for a descriptor says: the number of its refusal, or where the descriptor stands and how long it is.
+use Prim.Native.Nat.{ℕ}
+use mathlib.Core.Bool.{true, cond}
+use mathlib.Core.List.{List}
+use Rattle.rules.specs.declared.Dock.{Dock}
+use Rattle.rules.specs.declared.addresses.StringIndex.{StringIndex}
+use Rattle.rules.specs.Words.{first}
+use Rattle.rules.specs.Descriptors.{placeIn, lengthIn, descriptorChecks}
+use Rattle.rules.specs.Step.{done}
+use Rattle.descriptors.specs.declared.Found.{Found}
+use Rattle.descriptors.specs.declared.Found.the-variants.{No, At}
+
+abbrev pub looked : Dock → StringIndex → List ℕ → ℕ → Found
+looked dock named memory value =
+    let answer : ℕ = first (descriptorChecks true dock named memory value) in
+    cond (done answer) (At (placeIn dock named value) (lengthIn dock named memory value)) (No answer)
