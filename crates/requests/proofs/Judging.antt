@@ -6,17 +6,20 @@ use Prim.Native.Nat.{ℕ, _+_, _*_, _<_}
 use native.Mathlib.Omega.{arith}
 use lib.Dec.{eqb, ltb}
 use lib.ListN.{length}
-use borrow.Author.Tests.{eqb-true, eqb-false, ne-eqb, eq-eqb, ltb-true}
+use borrow.Author.Tests.{eqb-true, eqb-false, ne-eqb, eq-eqb, ltb-true, le-ltb}
 use Rattle.rules.specs.declared.Request.{Request}
+use Rattle.rules.specs.declared.Seen.{Seen}
 use Rattle.rules.specs.declared.Setup.{Setup}
-use Rattle.rules.specs.Words.{Check, first}
-use Rattle.rules.specs.Requests.{Named, Unknown, Known, Row, table, lookup, setupOf, requestOf, needsConfiguration}
-use Rattle.rules.specs.Answers.{tableChecks, dataChecks, requestChecks, requestAnswer}
+use Rattle.rules.specs.Words.{Check, _if_, first}
+use Rattle.rules.specs.Held.{sizeOf, fitted}
+use Rattle.rules.specs.Descriptors.{descriptorChecks}
+use Rattle.rules.specs.Requests.{Named, Unknown, Known, Describes, Row, table, lookup, setupOf, requestOf, needsConfiguration}
+use Rattle.rules.specs.Answers.{namedChecks, requestChecks, requestAnswer}
 use Rattle.rules.proofs.Checks.{numbered, first-append}
 use Rattle.rules.specs.Step.{done}
 use Rattle.requests.specs.declared.Judgement.{Judgement}
 use Rattle.requests.specs.declared.Judgement.the-variants.{Refused}
-use Rattle.requests.specs.Judgements.{judged, judgedAs, judgedBy}
+use Rattle.requests.specs.Judgements.{judged, judgedAs, judgedBy, foundBy}
 
 -- ---- the table
 
@@ -37,7 +40,7 @@ abbrev lookupPair : List Row → ℕ → Setup → Named
 lookupPair [] pair s = Unknown
 lookupPair (r ∷ rs) pair s =
     cond (eqb pair (pairOf r) && (r .value) (s .value) && (r .index) (s .index) && (r .length) (s .length))
-    (Known (r .names))
+    (r .names)
     (lookupPair rs pair s)
 
 abbrev kindsAreBytes : List Row → Bool
@@ -74,12 +77,12 @@ unknown-at s word h e k = request-at s word word h e refl ∙ apart (Unit {0}) t
 
 -- ---- the judgement of a request
 
-module _ (m : ℕ) (s : Setup) (host room : ℕ) where
+module _ (seen : Seen) (memory : List ℕ) (s : Setup) (host room : ℕ) where
   abbrev judgement : Named → Judgement
-  judgement r = judgedAs r s (first (tableChecks m s r ++ dataChecks s host room))
+  judgement q = judgedAs seen memory q s (first (namedChecks seen memory s q host room))
 
   -- of the one that the setup makes
-  pub judged-as : {j : Judgement} {r : Named} → requestOf s ≡ r → j ≡ judgement r → j ≡ judgement (requestOf s)
+  pub judged-as : {j : Judgement} {q : Named} → requestOf s ≡ q → j ≡ judgement q → j ≡ judgement (requestOf s)
   judged-as e k = k ∙ ap judgement (sym e)
 
   -- of one that it makes where its fields fit
@@ -90,6 +93,13 @@ module _ (m : ℕ) (s : Setup) (host room : ℕ) where
       go : (t : Bool) → cond t (judgement (Known r)) (Refused 5) ≡ judgement (cond t (Known r) Unknown)
       go true = refl
       go false = refl
+
+  -- of Get Descriptor, by its type
+  pub judged-found : {j : Judgement} → requestOf s ≡ Describes → s .kind ≡ 0x80
+      → j ≡ foundBy seen memory s
+      (first (7 if eqb (sizeOf memory) 0 ∷ descriptorChecks true (seen .dock) (seen .«first_string») (fitted memory) (s .value) ++ 2 if not (eqb host 0) ∷ []))
+      → j ≡ judgement (requestOf s)
+  judged-found e k h = judged-as e (rw (k, le-ltb room 0 (omega arith)) h)
 
 -- ---- checks in two parts: an answer is that of the first part, and where none of it applies the second decides
 
@@ -108,26 +118,28 @@ module _ (r : Request) (s : Setup) (cs ds : List Check) (n : numbered cs ≡ tru
 -- ---- the judgement of a setup
 
 -- a number that refuses does so whatever the request
-refuses : (q : Named) (s : Setup) (n : ℕ) → done n ≡ false → Refused n ≡ judgedAs q s n
-refuses Unknown s n d = refl
-refuses (Known r) s n d = rw d
+refuses : (seen : Seen) (memory : List ℕ) (q : Named) (s : Setup) (n : ℕ) → done n ≡ false → Refused n ≡ judgedAs seen memory q s n
+refuses seen memory Unknown s n d = refl
+refuses seen memory (Known r) s n d = rw d
+refuses seen memory Describes s n d = rw d
 
-module _ (configured : Bool) (m : ℕ) (setup : List ℕ) (host room : ℕ) where
+module _ (seen : Seen) (memory setup : List ℕ) (host room : ℕ) where
   abbrev verdict : Judgement
-  verdict = judged (requestAnswer configured m setup host room) (setupOf setup)
+  verdict = judged seen memory (requestAnswer seen memory setup host room) (setupOf setup)
 
   pub not-eight : (length setup ≡ 8 → ⊥) → Refused 1 ≡ verdict
   unfolding requestAnswer
-  not-eight n = rw (ne-eqb (length setup) 8 n) (refuses (requestOf (setupOf setup)) (setupOf setup) 1 refl)
+  not-eight n = rw (ne-eqb (length setup) 8 n) (refuses seen memory (requestOf (setupOf setup)) (setupOf setup) 1 refl)
 
   -- by what was read of an eight-byte setup
   module _ {s : Setup} (l : length setup ≡ 8) (is : s ≡ setupOf setup) where
-    read : judged (first (requestChecks configured m 8 s (requestOf s) host room)) s ≡ verdict
+    read : judged seen memory (first (requestChecks seen memory 8 s (requestOf s) host room)) s ≡ verdict
     unfolding requestAnswer
     read = rw (l, is)
 
-    pub unready : (not configured && needsConfiguration (s .kind)) ≡ true → Refused 4 ≡ verdict
-    unready t = refuses (requestOf s) s 4 refl ∙ (rw t at read)
+    pub unready : (not (seen .configured) && needsConfiguration (s .kind)) ≡ true → Refused 4 ≡ verdict
+    unready t = refuses seen memory (requestOf s) s 4 refl ∙ (rw t at read)
 
-    pub ready : {j : Judgement} → (not configured && needsConfiguration (s .kind)) ≡ false → j ≡ judgement m s host room (requestOf s) → j ≡ verdict
+    pub ready : {j : Judgement} → (not (seen .configured) && needsConfiguration (s .kind)) ≡ false → j ≡ judgement seen memory s host room (requestOf s)
+        → j ≡ verdict
     ready t k = k ∙ (rw t at read)

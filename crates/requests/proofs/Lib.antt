@@ -1,3 +1,4 @@
 mod Addresses
+mod Finding
 mod Judging
 pub mod Unique

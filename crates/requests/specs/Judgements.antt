@@ -1,20 +1,33 @@
--- What a judgement says: the number of a refusal, or the request that is granted, with its fields.
+-- What a judgement says: the number of a refusal; the request that is granted, with its fields; or where a descriptor's reply stands and how long it is.
 use Prim.Native.Nat.{ℕ}
 use mathlib.Core.Bool.{cond}
+use mathlib.Core.List.{List}
+use lib.ListN.{length}
 use Rattle.rules.specs.declared.Request.{Request}
+use Rattle.rules.specs.declared.Seen.{Seen}
 use Rattle.rules.specs.declared.Setup.{Setup}
-use Rattle.rules.specs.Requests.{Named, Unknown, Known, requestOf}
+use Rattle.rules.specs.Held.{fitted}
+use Rattle.rules.specs.Descriptors.{placeIn, told}
+use Rattle.rules.specs.Requests.{Named, Unknown, Known, Describes, requestOf}
 use Rattle.rules.specs.Step.{done}
 use Rattle.requests.specs.declared.Judgement.{Judgement}
-use Rattle.requests.specs.declared.Judgement.the-variants.{Refused, Granted}
+use Rattle.requests.specs.declared.Judgement.the-variants.{Refused, Granted, Found}
 
 abbrev pub judgedBy : Request → Setup → ℕ → Judgement
 judgedBy r s answer = cond (done answer) (Granted r s) (Refused answer)
 
--- no request is granted that is not in the table
-abbrev pub judgedAs : Named → Setup → ℕ → Judgement
-judgedAs Unknown s answer = Refused answer
-judgedAs (Known r) s answer = judgedBy r s answer
+abbrev pub foundBy : Seen → List ℕ → Setup → ℕ → Judgement
+foundBy seen memory s answer =
+    cond (done answer)
+    (Found (placeIn (seen .dock) (seen .«first_string») (s .value))
+    (length (told (seen .dock) (seen .«first_string») (fitted memory) (s .value) (s .length))))
+    (Refused answer)
 
-abbrev pub judged : ℕ → Setup → Judgement
-judged answer s = judgedAs (requestOf s) s answer
+-- nothing is granted that is not in the table
+abbrev pub judgedAs : Seen → List ℕ → Named → Setup → ℕ → Judgement
+judgedAs seen memory Unknown s answer = Refused answer
+judgedAs seen memory (Known r) s answer = judgedBy r s answer
+judgedAs seen memory Describes s answer = foundBy seen memory s answer
+
+abbrev pub judged : Seen → List ℕ → ℕ → Setup → Judgement
+judged seen memory answer s = judgedAs seen memory (requestOf s) s answer

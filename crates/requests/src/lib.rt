@@ -1,17 +1,21 @@
 // Control requests, judged: the fields of a setup, the request that they make, and the answer that the checks give.
 ghost use mathlib.Core.Path.{_≡_};
-ghost use mathlib.Core.Bool.{true, cond, not, _&&_, _||_};
-ghost use mathlib.Core.List.{_∷_, _++_};
-ghost use Prim.Native.Nat.{_+_};
+ghost use mathlib.Core.Bool.{true, false, cond, not, _&&_, _||_};
+ghost use mathlib.Core.List.{[], _∷_, _++_};
+ghost use Prim.Native.Nat.{_+_, min};
 ghost use lib.Dec.{eqb, leb, ltb};
 ghost use lib.ListN.{length};
-ghost use Rattle.requests.specs.Judgements.{judged, judgedBy};
+ghost use Rattle.requests.specs.Judgements.{judged, judgedBy, foundBy};
 ghost use Rattle.rules.specs.Words.{_if_, first};
 ghost use Rattle.rules.specs.Requests.{setupOf, requestOf, needsConfiguration, onePage};
-ghost use Rattle.rules.specs.Held.{sizeFor, bulkOut, bulkIn};
-ghost use Rattle.rules.specs.Answers.{programChecks, placeChecks, tableChecks, dataChecks, requestAnswer};
+ghost use Rattle.rules.specs.Held.{sizeFor, sizeOf, fitted as fittedOf, bulkOut, bulkIn};
+ghost use Rattle.rules.specs.Descriptors.{descriptorChecks};
+ghost use Rattle.rules.specs.Answers.{programChecks, placeChecks, dataChecks, namedChecks, requestAnswer};
+use descriptors::Found;
 use rules::Request;
+use rules::Seen;
 use rules::Setup;
+use rules::addresses::Address;
 use rules::answers::CROSSES_PAGE;
 use rules::answers::DONE;
 use rules::answers::HOST_DATA;
@@ -28,10 +32,11 @@ use rules::fields::BULK_OUT;
 use rules::fields::CONFIGURATION_BYTES;
 use rules::fields::MEMORY;
 
-// How a control request is judged.
+// How a control request is judged: refused, granted, or a descriptor is found, where its reply stands in the memory and how long that is.
 pub enum Judgement {
     Refused(u8),
     Granted(Request, Setup),
+    Found(Address, u16),
 }
 
 const PAGE: u32 = 256;
@@ -140,7 +145,7 @@ fn write_answer(in_memory: bool, start: u16, n: u16) -> u8
 
 // Checks 6 to 10, of a request that has a place.
 fn address_answer(writes: bool, size: usize, place: u16, start: u16, n: u16) -> u8
-    ensures { λ a. ⌜ a ≡ first (placeChecks true writes size place start n) ⌝ }
+    ensures { λ a. ⌜ a ≡ first (placeChecks false true writes size place start n) ⌝ }
 {
     let in_memory = place == MEMORY;
     if !((place == CONFIGURATION_BYTES) | in_memory) {
@@ -161,7 +166,7 @@ fn address_answer(writes: bool, size: usize, place: u16, start: u16, n: u16) -> 
 
 // Checks 2 and 3: the host sends wLength bytes where the type is below 0x80, else it is sent them.
 fn data_answer(s: Setup, host: usize, room: usize) -> u8
-    ensures { λ a. ⌜ a ≡ first (dataChecks s host room) ⌝ }
+    ensures { λ a. ⌜ a ≡ first (dataChecks false s host room) ⌝ }
 {
     let n = s.length as usize;
     if s.kind < 0x80 {
@@ -188,7 +193,7 @@ fn size_of(n: usize) -> usize
 
 // A request of the table, with its place and address good where it has them: granted, unless check 2 or 3 refuses its data.
 fn granted(r: Request, s: Setup, host: usize, room: usize) -> Judgement
-    ensures { λ j. ⌜ j ≡ judgedBy r s (first (dataChecks s host room)) ⌝ }
+    ensures { λ j. ⌜ j ≡ judgedBy r s (first (dataChecks false s host room)) ⌝ }
 {
     let answer = data_answer(s, host, room);
     if answer != DONE {
@@ -199,7 +204,7 @@ fn granted(r: Request, s: Setup, host: usize, room: usize) -> Judgement
 
 // A request whose fields the table fixes: whether its wValue and wIndex fit, and a wLength of n.
 fn fixed(r: Request, fit: bool, n: u16, s: Setup, host: usize, room: usize) -> Judgement
-    ensures { λ j. ⌜ j ≡ cond (fit && eqb (s .length) n) (judgedBy r s (first (dataChecks s host room))) (Judgement.Refused 5) ⌝ }
+    ensures { λ j. ⌜ j ≡ cond (fit && eqb (s .length) n) (judgedBy r s (first (dataChecks false s host room))) (Judgement.Refused 5) ⌝ }
 {
     if fit & (s.length == n) {
         return granted(r, s, host, room);
@@ -209,13 +214,43 @@ fn fixed(r: Request, fit: bool, n: u16, s: Setup, host: usize, room: usize) -> J
 
 // A request that has a place. `memory` is the length of the memory part.
 fn placed(r: Request, writes: bool, memory: usize, s: Setup, host: usize, room: usize) -> Judgement
-    ensures { λ j. ⌜ j ≡ judgedBy r s (first (placeChecks true writes (sizeFor memory) (s .value) (s .index) (s .length) ++ dataChecks s host room)) ⌝ }
+    ensures { λ j. ⌜ j ≡ judgedBy r s (first (placeChecks false true writes (sizeFor memory) (s .value) (s .index) (s .length) ++ dataChecks false s host room)) ⌝ }
 {
     let answer = address_answer(writes, size_of(memory), s.value, s.index, s.length);
     if answer != DONE {
         return Judgement::Refused(answer);
     }
     granted(r, s, host, room)
+}
+
+fn shorter(a: u16, b: u16) -> u16
+    ensures { λ r. ⌜ r ≡ min a b ⌝ }
+{
+    if a < b { a } else { b }
+}
+
+// Get Descriptor: checks 7, 18, 19, 18, 19 and 2. What it tells needs no room, so that 3 is not given.
+fn described(seen: Seen, memory: &[u8], s: Setup, host: usize) -> Judgement
+    ensures { λ j. ⌜ j ≡ foundBy seen (now (memory .entry)) s (first (7 if eqb (sizeOf (now (memory .entry))) 0 ∷ descriptorChecks true (seen .dock) (seen .«first_string») (fittedOf (now (memory .entry))) (s .value) ++ 2 if not (eqb host 0) ∷ [])) ⌝ }
+{
+    let size = size_of(memory.len());
+    if size == 0 {
+        return Judgement::Refused(NONE_FITTED);
+    }
+    let fitted = &memory[..size];
+    let dock = seen.dock;
+    let first = seen.first_string;
+    let found = descriptors::look(dock, first, fitted, s.value);
+    match found {
+        Found::No(answer) => Judgement::Refused(answer),
+        Found::At(at, n) => {
+            if host != 0 {
+                return Judgement::Refused(HOST_DATA);
+            }
+            let part = descriptors::find(fitted, at, shorter(n, s.length));
+            Judgement::Found(at, part.len() as u16)
+        }
+    }
 }
 
 // Type and code of each row of the table, as one number: the type its low byte, as they come on the wire.
@@ -239,9 +274,11 @@ const SOFT_RESET: u16 = 0x40 + 256 * 0x03;
 
 const BOGUS_READ: u16 = 0xC0 + 256 * 0x01;
 
+const GET_DESCRIPTOR: u16 = 0x80 + 256 * 0x06;
+
 // The table, by type and code.
-fn looked_up(memory: usize, s: Setup, host: usize, room: usize) -> Judgement
-    ensures { λ j. ⌜ j ≡ judged (first (tableChecks (sizeFor memory) s (requestOf s) ++ dataChecks s host room)) s ⌝ }
+fn looked_up(seen: Seen, memory: &[u8], s: Setup, host: usize, room: usize) -> Judgement
+    ensures { λ j. ⌜ j ≡ judged seen (now (memory .entry)) (first (namedChecks seen (now (memory .entry)) s (requestOf s) host room)) s ⌝ }
 {
     match lent::word(s.kind, s.code) {
         SET_CONFIGURATION => fixed(
@@ -257,24 +294,25 @@ fn looked_up(memory: usize, s: Setup, host: usize, room: usize) -> Judgement
         GET_STATUS => fixed(Request::GetStatus, is_pipe(s), 2, s, host, room),
         GET_MAX_LUN => fixed(Request::GetMaxLun, is_zero(s), 1, s, host, room),
         MASS_STORAGE_RESET => fixed(Request::MassStorageReset, is_zero(s), 0, s, host, room),
-        LOAD_CONFIG_DATA => placed(Request::LoadConfigData, true, memory, s, host, room),
-        READ_CONFIG_DATA => placed(Request::ReadConfigData, false, memory, s, host, room),
+        LOAD_CONFIG_DATA => placed(Request::LoadConfigData, true, memory.len(), s, host, room),
+        READ_CONFIG_DATA => placed(Request::ReadConfigData, false, memory.len(), s, host, room),
         SOFT_RESET => fixed(Request::SoftReset, is_zero(s), 0, s, host, room),
         BOGUS_READ => granted(Request::BogusRead, s, host, room),
+        GET_DESCRIPTOR => described(seen, memory, s, host),
         _ => Judgement::Refused(NOT_IN_TABLE),
     }
 }
 
-// `memory`, `host` and `room` are lengths: of the memory part, of the data from the host, and of the reply buffer.
-pub fn judge(configured: bool, memory: usize, setup: &[u8], host: usize, room: usize) -> Judgement
-    ensures { λ j. ⌜ j ≡ judged (requestAnswer configured (sizeFor memory) (now (setup .entry)) host room) (setupOf (now (setup .entry))) ⌝ }
+// `host` and `room` are lengths: of the data from the host, and of the reply buffer.
+pub fn judge(seen: Seen, memory: &[u8], setup: &[u8], host: usize, room: usize) -> Judgement
+    ensures { λ j. ⌜ j ≡ judged seen (now (memory .entry)) (requestAnswer seen (now (memory .entry)) (now (setup .entry)) host room) (setupOf (now (setup .entry))) ⌝ }
 {
     if setup.len() != 8 {
         return Judgement::Refused(SETUP_LENGTH);
     }
     let s = setup_of(setup);
-    if !configured && needs_configuration(s.kind) {
+    if !seen.configured && needs_configuration(s.kind) {
         return Judgement::Refused(UNCONFIGURED);
     }
-    looked_up(memory, s, host, room)
+    looked_up(seen, memory, s, host, room)
 }

@@ -1,5 +1,6 @@
 -- `requests::granted` meets its contract.
 use mathlib.Core.Path.{refl}
+use mathlib.Core.Bool.{false}
 use mathlib.Core.List.{[]}
 use borrow.Author.Needs.{needs}
 use Rattle.rules.specs.Answers.{dataChecks}
@@ -13,12 +14,12 @@ data-answer-requires c κs = search needs
 returns : tie.Need-returns
 returns c =
     let a = c .before .before .args in
-    refused-by (a .r) (a .s) (dataChecks (a .s) (a .host) (a .room)) [] refl (c .before .data-answer .ensures) (c .if1 .taken)
+    refused-by (a .r) (a .s) (dataChecks false (a .s) (a .host) (a .room)) [] refl (c .before .data-answer .ensures) (c .if1 .taken)
 
 returns-2 : tie.Need-returns-2
 returns-2 c =
     let a = c .before .before .args in
-    left-to (a .r) (a .s) (dataChecks (a .s) (a .host) (a .room)) [] refl (c .before .data-answer .ensures) (c .if1 .left) refl
+    left-to (a .r) (a .s) (dataChecks false (a .s) (a .host) (a .room)) [] refl (c .before .data-answer .ensures) (c .if1 .left) refl
 
 pub granted-spec : {M : Type 1} → statement M
 granted-spec = tie.close (tie.spec data-answer-requires returns returns-2)

@@ -2,15 +2,14 @@
 use mathlib.Core.Path.{sym, _∙_}
 use mathlib.Core.Logic.{⊎-elim}
 use borrow.Author.Needs.{needs}
-use Rattle.rules.specs.Held.{sizeFor}
 use Rattle.requests.proofs.Judging.{not-eight, unready, ready}
 use Rattle.requests.proofs.judge.Statement.{statement}
 use Rattle.requests.proofs.judge.Tie as tie
 
 returns : tie.Need-returns
 returns c =
-    let a = c .before .before .args in
-    not-eight (a .configured) (sizeFor (a .memory)) (a .setup .now) (a .host) (a .room) (c .if1 .taken)
+    let a = c .before .before .before .args in
+    not-eight (a .seen) (a .memory .now) (a .setup .now) (a .host) (a .room) (c .if1 .taken)
 
 setup-of-requires : tie.Need-setup-of-requires
 setup-of-requires c κs = search needs
@@ -20,9 +19,9 @@ needs-configuration-requires c κs = search needs
 
 returns-2 : tie.Need-returns-2
 returns-2 c =
-    let a = c .before .before .before .before .before .before .args in
-    unready (a .configured) (sizeFor (a .memory)) (a .setup .now) (a .host) (a .room)
-    (c .before .before .before .before .if1 .left) (c .before .before .before .setup-of .ensures)
+    let a = c .before .before .before .before .before .before .before .before .args in
+    unready (a .seen) (a .memory .now) (a .setup .now) (a .host) (a .room)
+    (c .before .before .before .before .before .if1 .left) (c .before .before .before .before .setup-of .ensures)
     (rw (c .before .before .if2 .taken) (sym (c .before .needs-configuration .ensures) ∙ c .if3 .taken))
 
 looked-up-requires : tie.Need-looked-up-requires
@@ -30,9 +29,9 @@ looked-up-requires c κs = search needs
 
 returns-3 : tie.Need-returns-3
 returns-3 c =
-    let a = c .before .before .before .before .before .args in
-    ready (a .configured) (sizeFor (a .memory)) (a .setup .now) (a .host) (a .room)
-    (c .before .before .before .if1 .left) (c .before .before .setup-of .ensures)
+    let a = c .before .before .before .before .before .before .before .args in
+    ready (a .seen) (a .memory .now) (a .setup .now) (a .host) (a .room)
+    (c .before .before .before .before .if1 .left) (c .before .before .before .setup-of .ensures)
     (⊎-elim (λ w. rw (w .0 .taken) (sym (w .1 .ensures) ∙ w .2 .left)) (λ w. rw (w .left)) (c .before .if2 .came))
     (c .looked-up .ensures)
 

@@ -1,6 +1,6 @@
 -- `requests::placed` meets its contract.
 use mathlib.Core.Path.{refl}
-use mathlib.Core.Bool.{true}
+use mathlib.Core.Bool.{true, false}
 use borrow.Author.Needs.{needs}
 use Rattle.rules.specs.Held.{sizeFor}
 use Rattle.rules.specs.Answers.{placeChecks, dataChecks}
@@ -18,8 +18,8 @@ returns : tie.Need-returns
 returns c =
     let a = c .before .before .before .args in
     refused-by (a .r) (a .s)
-    (placeChecks true (a .writes) (sizeFor (a .memory)) (a .s .value) (a .s .index) (a .s .length))
-    (dataChecks (a .s) (a .host) (a .room)) refl
+    (placeChecks false true (a .writes) (sizeFor (a .memory)) (a .s .value) (a .s .index) (a .s .length))
+    (dataChecks false (a .s) (a .host) (a .room)) refl
     (rw (c .before .before .size-of .ensures) at (c .before .address-answer .ensures)) (c .if1 .taken)
 
 granted-requires : tie.Need-granted-requires
@@ -29,8 +29,8 @@ returns-2 : tie.Need-returns-2
 returns-2 c =
     let a = c .before .before .before .before .args in
     left-to (a .r) (a .s)
-    (placeChecks true (a .writes) (sizeFor (a .memory)) (a .s .value) (a .s .index) (a .s .length))
-    (dataChecks (a .s) (a .host) (a .room)) refl
+    (placeChecks false true (a .writes) (sizeFor (a .memory)) (a .s .value) (a .s .index) (a .s .length))
+    (dataChecks false (a .s) (a .host) (a .room)) refl
     (rw (c .before .before .before .size-of .ensures) at (c .before .before .address-answer .ensures)) (c .before .if1 .left) (c .granted .ensures)
 
 pub placed-spec : {M : Type 1} → statement M
