@@ -11,4 +11,4 @@ pub serve : OneOutcome Serve.Kinds.ps Serve.Kinds.r Serve.Reads.Post
 serve κs a r r' left left' p q = (ap outcomeOf (only p q), ap (λ (l : Left). (tt, (tt, (tt, (l .bytes, (tt, (l .memory, (l .room, tt)))))))) (only p q))
 
 pub control : OneOutcome Control.Kinds.ps Control.Kinds.r Control.Reads.Post
-control κs a r r' left left' p q = (ap outcomeOf (only p q), ap (λ (l : Left). (tt, (l .bytes, (tt, (tt, (l .memory, (l .room, tt))))))) (only p q))
+control κs a r r' left left' p q = (ap (λ (l : Left). record { outcome = outcomeOf l; stands = l .stands }) (only p q), ap (λ (l : Left). (tt, (l .bytes, (tt, (tt, (l .memory, (l .room, tt))))))) (only p q))

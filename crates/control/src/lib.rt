@@ -1,13 +1,15 @@
-// Control requests: those that are granted are done.
+// Control requests: those that are granted are done, and descriptors are told from where they stand.
 ghost use mathlib.Core.Path.{_≡_};
 ghost use mathlib.Core.Bool.{cond};
-ghost use mathlib.Core.List.{_∷_};
+ghost use mathlib.Core.List.{[], _∷_};
 ghost use Prim.Native.Nat.{_-_, _≤_};
 ghost use lib.ListN.{take, drop, replicate};
 ghost use Rattle.outcomes.specs.Outcomes.{outcome, leftBy};
+ghost use Rattle.control.specs.Standing.{leftWhere};
 ghost use Rattle.rules.specs.Words.{over, one};
 ghost use Rattle.rules.specs.Held.{world, configuration};
 ghost use Rattle.rules.specs.Requests.{Known, inMemory, haltOf, bytesAfter, memoryAfter};
+ghost use Rattle.rules.specs.Answers.{seenOf};
 ghost use Rattle.rules.specs.Step.{Control};
 ghost use Rattle.rules.specs.Promise.{leaves, served};
 
@@ -20,9 +22,19 @@ use requests::Judgement;
 use rules::Bridge;
 use rules::Change;
 use rules::Request;
+use rules::Seen;
 use rules::Setup;
+use rules::Stands;
+use rules::addresses::StringIndex;
 use rules::fields::BULK_OUT;
+use rules::fields::FIRST_STRING;
 use rules::fields::MEMORY;
+
+// The outcome of a control request, and where its reply stands.
+pub struct ControlOutcome {
+    pub outcome: Outcome,
+    pub stands: Stands,
+}
 
 // The host's bytes stand at their addresses, of the memory or of the configuration.
 fn load(s: Setup, host: &[u8], bytes: &mut [u8], memory: &mut [u8])
@@ -46,7 +58,8 @@ fn read<'a>(s: Setup, bytes: &'a [u8], memory: &'a [u8], reply: &mut [u8])
     ensures { λ u. ⌜ now (reply .exit) ≡ over (now (reply .entry)) 0 (take (s .length) (drop (s .index) (cond (inMemory (s .value)) (now (memory .entry)) (now (bytes .entry))))) ⌝ }
 {
     let store = place(s.value, bytes, memory);
-    lent::copy_part(reply, store, s.index as usize, s.length as usize);
+    let part = lent::part(store, s.index as usize, s.length as usize);
+    lent::copy(reply, 0, part);
 }
 
 fn configuration_of(b: Bridge) -> u8
@@ -81,7 +94,7 @@ fn number(low: u8, n: u16, reply: &mut [u8]) -> Outcome
     replied(n)
 }
 
-// A request that no check refuses. As far as the rooms go: of one that is granted they hold it all.
+// A request that is to be done and that no check refuses. As far as the rooms go: of one that is granted they hold it all.
 pub fn serve(
     r: Request,
     s: Setup,
@@ -91,7 +104,7 @@ pub fn serve(
     memory: &mut [u8],
     reply: &mut [u8],
 ) -> Outcome
-    ensures { λ o. ⌜ leftBy o (now (bytes .exit)) (now (memory .exit)) (now (reply .exit)) ≡ served (Known r) s (now (host .entry)) (world b (now (bytes .entry)) (now (memory .entry))) (now (reply .entry)) ⌝ }
+    ensures { λ o. ⌜ leftBy o (now (bytes .exit)) (now (memory .exit)) (now (reply .exit)) ≡ served r s (now (host .entry)) (world b (now (bytes .entry)) (now (memory .entry))) (now (reply .entry)) ⌝ }
 {
     let phase = b.phase;
     match r {
@@ -117,6 +130,26 @@ pub fn serve(
     }
 }
 
+fn standing(o: Outcome, stands: Stands) -> ControlOutcome
+    ensures { λ r. ⌜ r ≡ record { outcome = o; stands = stands } ⌝ }
+{
+    ControlOutcome {
+        outcome: o,
+        stands: stands,
+    }
+}
+
+fn seen(b: Bridge, bytes: &[u8; 16]) -> Seen
+    ensures { λ r. ⌜ r ≡ seenOf (world b (now (bytes .entry)) []) ⌝ }
+{
+    let dock = b.dock;
+    Seen {
+        configured: b.configured,
+        dock: dock,
+        first_string: StringIndex(bytes[FIRST_STRING]),
+    }
+}
+
 pub fn control(
     b: Bridge,
     bytes: &mut [u8; 16],
@@ -124,12 +157,16 @@ pub fn control(
     host: &[u8],
     memory: &mut [u8],
     reply: &mut [u8],
-) -> Outcome
-    ensures { λ o. ⌜ leftBy o (now (bytes .exit)) (now (memory .exit)) (now (reply .exit)) ≡ leaves (world b (now (bytes .entry)) (now (memory .entry))) (Control (now (setup .entry)) (now (host .entry))) (now (reply .entry)) ⌝ }
+) -> ControlOutcome
+    ensures { λ c. ⌜ leftWhere c (now (bytes .exit)) (now (memory .exit)) (now (reply .exit)) ≡ leaves (world b (now (bytes .entry)) (now (memory .entry))) (Control (now (setup .entry)) (now (host .entry))) (now (reply .entry)) ⌝ }
 {
-    let judgement = requests::judge(b.configured, memory.len(), setup, host.len(), reply.len());
+    let judgement = requests::judge(seen(b, bytes), memory, setup, host.len(), reply.len());
     match judgement {
-        Judgement::Refused(answer) => refused(answer),
-        Judgement::Granted(r, s) => serve(r, s, b, bytes, host, memory, reply),
+        Judgement::Refused(answer) => standing(refused(answer), Stands::InRoom),
+        Judgement::Granted(r, s) => {
+            let o = serve(r, s, b, bytes, host, memory, reply);
+            standing(o, Stands::InRoom)
+        }
+        Judgement::Found(at, count) => standing(replied(count), Stands::InMemory(at)),
     }
 }

@@ -6,28 +6,25 @@ use Rattle.control.proofs.read.Tie as tie
 place-requires : tie.Need-place-requires
 place-requires c κs = search needs
 
-cast-copy-part : tie.Need-cast-copy-part
-cast-copy-part c = search needs
+cast-part : tie.Need-cast-part
+cast-part c = search needs
 
-cast-copy-part-2 : tie.Need-cast-copy-part-2
-cast-copy-part-2 c = search needs
+cast-part-2 : tie.Need-cast-part-2
+cast-part-2 c = search needs
 
-copy-part-requires : tie.Need-copy-part-requires
-copy-part-requires c κs = search needs
+part-requires : tie.Need-part-requires
+part-requires c κs = search needs
+
+copy-requires : tie.Need-copy-requires
+copy-requires c κs = search needs
 
 same-length : tie.Need-same-length
 same-length c = search needs
 
 returns : tie.Need-returns
-returns c = rw (← c .before .before .before .before .before .before .place .ensures) (c .before .before .copy-part .ensures)
+returns c = rw (← c .before .before .before .before .before .before .before .place .ensures, ← c .before .before .before .before .part .ensures .bytes) (c .before .before .copy .ensures)
 
 pub read-spec : {M : Type 1} → statement M
 read-spec =
     tie.close
-    (tie.spec
-    place-requires
-    cast-copy-part
-    cast-copy-part-2
-    copy-part-requires
-    same-length
-    returns)
+    (tie.spec place-requires cast-part cast-part-2 part-requires copy-requires same-length returns)
