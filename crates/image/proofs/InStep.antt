@@ -1,6 +1,6 @@
 -- The image stays in step with the rules: at power-on, and with whatever change is put into it.
 use mathlib.Core.Path.{_≡_, refl, sym, ap, subst}
-use mathlib.Core.Bool.{true, false}
+use mathlib.Core.Bool.{Bool, true, false}
 use mathlib.Core.List.{List, [], _∷_, _++_}
 use Prim.Native.Nat.{ℕ, zero, suc, _+_}
 use native.Mathlib.Omega.{arith}
@@ -11,13 +11,18 @@ use Rattle.rules.specs.declared.Change.the-variants.{Nothing, Sets, Awaits, Beg
 use Rattle.rules.specs.declared.Direction.the-variants.{Out, In}
 use Rattle.rules.specs.Words.{byte, over}
 use Rattle.rules.specs.Held.{world}
+use Rattle.rules.specs.Held.{powered as atPowerOn}
 use Rattle.rules.specs.Changes.{made}
 use Rattle.rules.specs.Demands.Sizes.{Sized}
 use Rattle.rules.proofs.Rows.{four-bytes}
-use Rattle.image.specs.Image.{decode, worldOf, put, PowersOn, InStep}
+use Rattle.image.specs.Image.{decode, worldOf, powered, put, PowersOn, InStep}
 
 pub powers-on : PowersOn
-powers-on memory = refl
+powers-on dock memory = go (dock .«bus_powered»)
+  where
+    go : (b : Bool) → worldOf (powered (record { «bus_powered» = b })) memory ≡ atPowerOn (record { «bus_powered» = b }) memory
+    go true = refl
+    go false = refl
 
 -- ---- an image, byte by byte
 
@@ -43,7 +48,7 @@ module _ (b i : List ℕ) where
   bytes = row 0 16 b
 
   abbrev image : List ℕ
-  image = row 0 29 i
+  image = row 0 30 i
 
   put-bytes : (c : Change) → Sized c → (memory : List ℕ) → Puts c bytes image memory
   unfolding over
@@ -66,15 +71,15 @@ module _ (b i : List ℕ) where
 pub in-step : InStep
 in-step c bytes image memory n h z =
     by-bytes 16 bytes n (λ b. Puts c b image memory)
-    (by-bytes 29 image h (λ i. Puts c (row 0 16 bytes) i memory) (put-bytes bytes image c z memory))
+    (by-bytes 30 image h (λ i. Puts c (row 0 16 bytes) i memory) (put-bytes bytes image c z memory))
 
 -- ---- and it stays an image
 
-pub put-length : (c : Change) (image : List ℕ) → length image ≡ 29 → length (put c image) ≡ 29
+pub put-length : (c : Change) (image : List ℕ) → length image ≡ 30 → length (put c image) ≡ 30
 unfolding over
-put-length c image h = by-bytes 29 image h (λ i. length (put c i) ≡ 29) (go c)
+put-length c image h = by-bytes 30 image h (λ i. length (put c i) ≡ 30) (go c)
   where
-    go : (c : Change) → length (put c (row 0 29 image)) ≡ 29
+    go : (c : Change) → length (put c (row 0 30 image)) ≡ 30
     go Nothing = refl
     go (Sets configured) = refl
     go Awaits = refl

@@ -6,18 +6,18 @@ use Rattle.rules.specs.OneOutcome.{OneOutcome}
 use Rattle.rules.proofs.Unique.{only}
 use Rattle.image.proofs.«power_on» as PowerOn
 use Rattle.image.proofs.«signature_of» as SignatureOf
-use Rattle.image.proofs.«is_configured» as IsConfigured
+use Rattle.image.proofs.seen as Seen
 use Rattle.image.proofs.load as Load
 use Rattle.image.proofs.make as Make
 
 pub «power_on» : OneOutcome PowerOn.Kinds.ps PowerOn.Kinds.r PowerOn.Reads.Post
-«power_on» κs a r r' left left' p q = (refl, ap (λ (now : List ℕ). (now, tt)) (only p q))
+«power_on» κs a r r' left left' p q = (refl, ap (λ (now : List ℕ). (now, (tt, tt))) (only p q))
 
 pub «signature_of» : OneOutcome SignatureOf.Kinds.ps SignatureOf.Kinds.r SignatureOf.Reads.Post
 «signature_of» κs a r r' left left' p q = (only p q, refl)
 
-pub «is_configured» : OneOutcome IsConfigured.Kinds.ps IsConfigured.Kinds.r IsConfigured.Reads.Post
-«is_configured» κs a r r' left left' p q = (only p q, refl)
+pub seen : OneOutcome Seen.Kinds.ps Seen.Kinds.r Seen.Reads.Post
+seen κs a r r' left left' p q = (only p q, refl)
 
 pub load : OneOutcome Load.Kinds.ps Load.Kinds.r Load.Reads.Post
 load κs a r r' left left' p q = (only p q, refl)

@@ -1,8 +1,8 @@
--- The image of a bridge: twenty-nine bytes that stand for its state and hold its configuration bytes. Any twenty-nine bytes stand for some state.
+-- The image of a bridge: thirty bytes that stand for its state and hold its configuration bytes. Any thirty bytes stand for some state.
 use Prim.Native.Nat.{ℕ, _%_}
 use mathlib.Core.Path.{_≡_}
 use mathlib.Core.Bool.{Bool, cond, not}
-use mathlib.Core.List.{List, _++_}
+use mathlib.Core.List.{List, [], _∷_, _++_}
 use lib.ListN.{length, set, take, drop, replicate}
 use lib.Dec.{eqb}
 use Rattle.rules.specs.declared.Bridge.{Bridge}
@@ -10,6 +10,7 @@ use Rattle.rules.specs.declared.Change.{Change}
 use Rattle.rules.specs.declared.Change.the-variants.{Nothing, Sets, Awaits, Begins, Finishes, Stops, Notes, Clears, Ends}
 use Rattle.rules.specs.declared.Direction.{Direction}
 use Rattle.rules.specs.declared.Direction.the-variants.{Out, In}
+use Rattle.rules.specs.declared.Dock.{Dock}
 use Rattle.rules.specs.declared.Phase.{Phase}
 use Rattle.rules.specs.declared.Phase.the-variants.{Awaiting, Busy, StatusWaiting, Stopped}
 use Rattle.rules.specs.Words.{byte, long, bytes4, one, over}
@@ -21,7 +22,7 @@ use Rattle.rules.specs.Demands.Sizes.{Sized}
 
 -- ---- read: at 0 the configuration bytes, at 16 the tag, at 20 L or the residue; at 24, 25 and 26 a mark each, set where it is not 0: configured, bulk
 -- out halted, bulk in halted; at 27 the phase, 0 awaiting, 1 busy, 2 status waiting, else stopped; at 28 its direction, its status, or whether a Mass
--- Storage Reset has come
+-- Storage Reset has come; at 29 a mark of what is fixed at power-on: bus powered
 
 abbrev pub bytesOf : List ℕ → List ℕ
 bytesOf image = take 16 image
@@ -42,9 +43,13 @@ phaseFrom kind detail tag amount =
     (cond (eqb kind 2) (StatusWaiting tag amount detail)
     (Stopped (isOdd detail))))
 
+abbrev pub dockOf : List ℕ → Dock
+dockOf image = record { «bus_powered» = isMarked (byte 29 image) }
+
 abbrev pub decode : List ℕ → Bridge
 decode image =
     record {
+      dock = dockOf image;
       configured = isMarked (byte 24 image);
       phase = phaseFrom (byte 27 image) (byte 28 image) (long 16 image) (long 20 image);
       halts = marks (isMarked (byte 25 image)) (isMarked (byte 26 image));
@@ -55,8 +60,8 @@ worldOf image memory = world (decode image) (bytesOf image) memory
 
 -- ---- written: at power-on, and by each change. What an earlier phase left where this one has nothing stays.
 
-abbrev pub powered : List ℕ
-powered = powerOnBytes ++ replicate 13 0
+abbrev pub powered : Dock → List ℕ
+powered dock = powerOnBytes ++ replicate 13 0 ++ one (dock .«bus_powered») ∷ []
 
 abbrev pub numbered : ℕ → ℕ → List ℕ → List ℕ
 numbered tag amount image = over (over image 16 (bytes4 tag)) 20 (bytes4 amount)
@@ -88,10 +93,10 @@ put Ends image = calm image
 
 -- the image at power-on stands for the world at power-on
 abbrev pub PowersOn : Type 0
-PowersOn = (memory : List ℕ) → worldOf powered memory ≡ atPowerOn memory
+PowersOn = (dock : Dock) (memory : List ℕ) → worldOf (powered dock) memory ≡ atPowerOn dock memory
 
 -- an image whose configuration bytes were written and where a change with numbers of 32 bits was put stands for those bytes and the bridge with the change made
 abbrev pub InStep : Type 0
 InStep =
-    (c : Change) (bytes image memory : List ℕ) → length bytes ≡ 16 → length image ≡ 29 → Sized c
+    (c : Change) (bytes image memory : List ℕ) → length bytes ≡ 16 → length image ≡ 30 → Sized c
     → worldOf (put c (bytes ++ drop 16 image)) memory ≡ world (made c (decode image)) bytes memory

@@ -1,19 +1,25 @@
-// The image of a bridge with its configuration bytes: twenty-nine bytes, read, and changed in place.
+// The image of a bridge with its configuration bytes: thirty bytes, read, and changed in place.
 ghost use mathlib.Core.Path.{_≡_};
+ghost use mathlib.Core.List.{[]};
 ghost use lib.ListN.{set};
 ghost use Rattle.rules.specs.Words.{long, byte};
+ghost use Rattle.rules.specs.Answers.{seenOf};
 ghost use Rattle.rules.specs.Packets.{signatureOf};
-ghost use Rattle.image.specs.Image.{bytesOf, isMarked, directionFrom, phaseFrom, decode, powered, numbered, phased, marked, calm, put};
+ghost use Rattle.image.specs.Image.{bytesOf, isMarked, directionFrom, phaseFrom, dockOf, decode, worldOf, powered, numbered, phased, marked, calm, put};
 use rules::Bridge;
 use rules::Change;
 use rules::Direction;
+use rules::Dock;
 use rules::Halts;
 use rules::Phase;
+use rules::Seen;
+use rules::addresses::StringIndex;
+use rules::fields::FIRST_STRING;
 
-pub const IMAGE: usize = 29;
+pub const IMAGE: usize = 30;
 
 // Behind the sixteen configuration bytes stand the tag, and L or the residue; a mark each for configured, bulk out halted and bulk in halted; the
-// phase; and its direction, its status or its note.
+// phase; its direction, its status or its note; and, fixed at power-on, a mark for bus powered.
 const SIGNATURE: usize = 0x04;
 
 const TAG: usize = 16;
@@ -30,6 +36,8 @@ const PHASE: usize = 27;
 
 const DETAIL: usize = 28;
 
+const BUS_POWERED: usize = 29;
+
 const AWAITING: u8 = 0;
 
 const BUSY: u8 = 1;
@@ -38,12 +46,13 @@ const STATUS_WAITING: u8 = 2;
 
 const STOPPED: u8 = 3;
 
-// Whatever it held, an image is that of a bridge at power-on.
-pub fn power_on(image: &mut [u8; IMAGE])
-    ensures { λ u. ⌜ now (image .exit) ≡ powered ⌝ }
+// Whatever it held, an image is that of a dock's bridge at power-on.
+pub fn power_on(image: &mut [u8; IMAGE], dock: Dock)
+    ensures { λ u. ⌜ now (image .exit) ≡ powered dock ⌝ }
 {
     *image = [0; IMAGE];
     lent::copy(image, 0, &rules::power_on_bytes());
+    image[BUS_POWERED] = dock.bus_powered as u8;
 }
 
 fn direction_from(detail: u8) -> Direction
@@ -101,10 +110,29 @@ pub fn signature_of(image: &[u8; IMAGE]) -> u8
     image[SIGNATURE]
 }
 
-pub fn is_configured(image: &[u8; IMAGE]) -> bool
+fn is_configured(image: &[u8; IMAGE]) -> bool
     ensures { λ r. ⌜ r ≡ isMarked (byte 24 (now (image .entry))) ⌝ }
 {
     image[CONFIGURED] != 0
+}
+
+fn dock_of(image: &[u8; IMAGE]) -> Dock
+    ensures { λ r. ⌜ r ≡ dockOf (now (image .entry)) ⌝ }
+{
+    Dock {
+        bus_powered: image[BUS_POWERED] != 0,
+    }
+}
+
+// What a control request is judged by.
+pub fn seen(image: &[u8; IMAGE]) -> Seen
+    ensures { λ r. ⌜ r ≡ seenOf (worldOf (now (image .entry)) []) ⌝ }
+{
+    Seen {
+        configured: is_configured(image),
+        dock: dock_of(image),
+        first_string: StringIndex(image[FIRST_STRING]),
+    }
 }
 
 // The state that the image stands for.
@@ -114,6 +142,7 @@ pub fn load(image: &[u8; IMAGE]) -> Bridge
     let tag = tag_of(image);
     let amount = amount_of(image);
     Bridge {
+        dock: dock_of(image),
         configured: is_configured(image),
         phase: phase_from(image[PHASE], image[DETAIL], tag, amount),
         halts: Halts {
