@@ -6,18 +6,20 @@ use Prim.Native.Nat.{ℕ, _+_}
 use native.Mathlib.Omega.{arith}
 use lib.ListN.{length, drop, length-append, length-drop}
 use Rattle.rules.specs.declared.Request.the-variants.{LoadConfigData}
-use Rattle.rules.specs.Words.{word, over, laid}
+use Rattle.rules.specs.declared.Dock.{Dock}
+use Rattle.rules.specs.Words.{word, over}
 use Rattle.rules.specs.Held.{World}
+use Rattle.rules.specs.Held.{powered as atPowerOn}
 use Rattle.rules.specs.Requests.{setupOf, requestOf, isA, inMemory}
-use Rattle.rules.specs.Step.{Event, BusReset, Control, Packet, Report, StatusRequest, answer, done, bytesDone, change, step, rules, after, reached}
-use Rattle.rules.specs.Promise.{handedOut}
+use Rattle.rules.specs.Step.{Event, BusReset, Control, Packet, Report, StatusRequest, Outcome, answer, done, bytesDone, change, step, rules, after, reached}
+use Rattle.rules.specs.Promise.{handedOut, roomWith}
 use Rattle.rules.specs.Demands.Boundary.{statusIn, Silent}
 use Rattle.rules.specs.Demands.Sizes.{AllOfBytes, Numbers}
 use Rattle.rules.proofs.Rows.{over-length}
 use Rattle.rules.proofs.Demands.Boundary.{after-append, silence, resumption}
 use Rattle.rules.proofs.Demands.Sizes.{sized, stepped, stays-sized}
 use Rattle.image.specs.Image.{bytesOf, powered, worldOf}
-use Rattle.image.proofs.InStep.{in-step, put-length}
+use Rattle.image.proofs.InStep.{powers-on, in-step, put-length}
 use Rattle.thrandue.specs.Calls.{returns}
 use Rattle.thrandue.specs.Sequences.{StandsForIt, Call, eventOf, eventsOf, Learnt, learnt, Parts, calling, partsAfter, learns, partsSince, standsFor, ruled, FromPowerOn, Hushed, AllHushed, CallsAreSilent, CallsResume}
 use Rattle.thrandue.proofs.Laws.{sixteen}
@@ -35,7 +37,7 @@ written bytes (Packet p room) = refl
 written bytes (Report direction failed amount) = refl
 written bytes (StatusRequest room) = refl
 
-sixteen-left : (image memory : List ℕ) (e : Event) → length image ≡ 29 → length (step (worldOf image memory) e .next .bytes) ≡ 16
+sixteen-left : (image memory : List ℕ) (e : Event) → length image ≡ 30 → length (step (worldOf image memory) e .next .bytes) ≡ 16
 unfolding step
 sixteen-left image memory e h = go (done (answer (worldOf image memory) e)) ∙ sixteen image (omega arith)
   where
@@ -52,23 +54,23 @@ stands-for-it image memory event room h z =
 
 -- ---- calls, one after the other
 
-module _ (s : Parts) (c : Call) (h : length (s .0) ≡ 29) where
+module _ (s : Parts) (c : Call) (h : length (s .0) ≡ 30) where
   abbrev next : Parts
   next = (calling s c .image, calling s c .memory)
 
-  image-left : length (next .0) ≡ 29
+  image-left : length (next .0) ≡ 30
   image-left =
       let bytes : List ℕ = step (standsFor s) (eventOf c) .next .bytes in
       put-length (change (standsFor s) (eventOf c)) (bytes ++ drop 16 (s .0))
       (omega (arith, length-append bytes (drop 16 (s .0)), length-drop 16 (s .0), sixteen-left (s .0) (s .1) (eventOf c) h))
 
 -- what is left of parts that stand for a world whose numbers have 32 bits
-record Runs (s : Parts) (cs : List Call) : Type 0 where
-  image : length (partsAfter s cs .0) ≡ 29
-  learnt-so : learns s cs ≡ ruled (standsFor s) cs
-  stands-so : standsFor (partsAfter s cs) ≡ after rules (standsFor s) (eventsOf cs)
+record Runs (s : Parts) (w : World) (cs : List Call) : Type 0 where
+  image : length (partsAfter s cs .0) ≡ 30
+  learnt-so : learns s cs ≡ ruled w cs
+  stands-so : standsFor (partsAfter s cs) ≡ after rules w (eventsOf cs)
 
-runs : (s : Parts) (cs : List Call) → length (s .0) ≡ 29 → Numbers (standsFor s .bridge .phase) → AllOfBytes (eventsOf cs) → Runs s cs
+runs : (s : Parts) (cs : List Call) → length (s .0) ≡ 30 → Numbers (standsFor s .bridge .phase) → AllOfBytes (eventsOf cs) → Runs s (standsFor s) cs
 runs s [] h n b = record { image = h; learnt-so = refl; stands-so = refl }
 runs s (c ∷ cs) h n b =
     let w : World = standsFor s in
@@ -83,11 +85,12 @@ runs s (c ∷ cs) h n b =
       stands-so = rest .stands-so ∙ ap (λ (v : World). after rules v (eventsOf cs)) now;
     }
 
-since-on : (memory : List ℕ) (cs : List Call) → AllOfBytes (eventsOf cs) → Runs (powered, memory) cs
-since-on memory cs b = runs (powered, memory) cs refl tt b
+since-on : (dock : Dock) (memory : List ℕ) (cs : List Call) → AllOfBytes (eventsOf cs) → Runs (powered dock, memory) (atPowerOn dock memory) cs
+since-on dock memory cs b =
+    subst (λ (w : World). Runs (powered dock, memory) w cs) (powers-on dock memory) (runs (powered dock, memory) cs refl tt b)
 
 pub from-power-on : FromPowerOn
-from-power-on memory cs b = (since-on memory cs b .learnt-so, since-on memory cs b .stands-so)
+from-power-on dock memory cs b = (since-on dock memory cs b .learnt-so, since-on dock memory cs b .stands-so)
 
 -- ---- calls in two parts
 
@@ -100,16 +103,18 @@ bytes-split [] ds b = (tt, b)
 bytes-split (c ∷ cs) ds b = let rest = bytes-split cs ds (b .1) in ((b .0, rest .0), rest .1)
 
 -- the world after a history and what follows it
-after-both : (memory : List ℕ) (history more : List Call) → AllOfBytes (eventsOf (history ++ more))
-    → standsFor (partsSince memory (history ++ more)) ≡ after rules (reached rules memory (eventsOf history)) (eventsOf more)
-after-both memory history more b =
-    since-on memory (history ++ more) b .stands-so ∙ ap (reached rules memory) (events-append history more)
+after-both : (dock : Dock) (memory : List ℕ) (history more : List Call) → AllOfBytes (eventsOf (history ++ more))
+    → standsFor (partsSince dock memory (history ++ more)) ≡ after rules (reached rules dock memory (eventsOf history)) (eventsOf more)
+after-both dock memory history more b =
+    since-on dock memory (history ++ more) b .stands-so ∙ ap (reached rules dock memory) (events-append history more)
     ∙ after-append _ (eventsOf history) (eventsOf more)
 
 -- ---- demand 3
 
 hushed : (w : World) (e : Event) (room : List ℕ) → step w e .operations ≡ [] → statusIn e (step w e) ≡ []
-    → Hushed e room (learnt (returns (step w e .answer) (length (handedOut e (step w e)))) (laid (handedOut e (step w e)) room))
+    → (let o : Outcome World = step w e in
+    Hushed e room (learnt (returns (o .answer) (length (handedOut e o)) (o .stands)) (roomWith (o .stands) (handedOut e o) room)))
+unfolding step
 hushed w BusReset room o s = tt
 hushed w (Control setup host n) room o s = tt
 hushed w (Packet p n) room o s = (step w (Packet p n) .answer, rw o)
@@ -121,19 +126,19 @@ all-hushed w [] s = tt
 all-hushed w (c ∷ cs) s = (hushed w (eventOf c) (c .room) (s .0) (s .1), all-hushed (step w (eventOf c) .next) cs (s .2))
 
 pub calls-are-silent : CallsAreSilent
-calls-are-silent memory history d since b stop =
+calls-are-silent dock memory history d since b stop =
     let parts = bytes-split history (d ∷ since) b in
-    let before = since-on memory history (parts .0) in
-    let numbers = rw (← (before .stands-so)) at (stays-sized memory (eventsOf history) (parts .0)) in
-    let here = runs (partsSince memory history) (d ∷ since) (before .image) numbers (parts .1) in
+    let before = since-on dock memory history (parts .0) in
+    let numbers = rw (← (before .stands-so)) at (stays-sized dock memory (eventsOf history) (parts .0)) in
+    let here = runs (partsSince dock memory history) (d ∷ since) (before .image) numbers (parts .1) in
     let same = here .learnt-so ∙ ap (λ (w : World). ruled w (d ∷ since)) (before .stands-so) in
     subst (AllHushed (d ∷ since)) (sym same)
-    (all-hushed (reached rules memory (eventsOf history)) (d ∷ since) (silence memory (eventsOf history) (eventOf d) (eventsOf since) stop))
+    (all-hushed (reached rules dock memory (eventsOf history)) (d ∷ since) (silence dock memory (eventsOf history) (eventOf d) (eventsOf since) stop))
 
 pub calls-resume : CallsResume
-calls-resume memory history d since b kept all all' stop ends same =
-    after-both memory history (d ∷ since ++ b ∷ []) all
-    ∙ ap (λ (es : List Event). after rules (reached rules memory (eventsOf history)) (eventOf d ∷ es)) (events-append since (b ∷ []))
-    ∙ resumption memory (eventsOf history) (eventOf d) (eventsOf since) (eventOf b) stop ends
-    ∙ ap (after rules (reached rules memory (eventsOf history))) (sym same)
-    ∙ sym (after-both memory history kept all')
+calls-resume dock memory history d since b kept all all' stop ends same =
+    after-both dock memory history (d ∷ since ++ b ∷ []) all
+    ∙ ap (λ (es : List Event). after rules (reached rules dock memory (eventsOf history)) (eventOf d ∷ es)) (events-append since (b ∷ []))
+    ∙ resumption dock memory (eventsOf history) (eventOf d) (eventsOf since) (eventOf b) stop ends
+    ∙ ap (after rules (reached rules dock memory (eventsOf history))) (sym same)
+    ∙ sym (after-both dock memory history kept all')

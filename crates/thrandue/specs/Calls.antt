@@ -6,7 +6,10 @@ use lib.ListN.{drop}
 use Rattle.rules.specs.declared.Bridge.{Bridge}
 use Rattle.rules.specs.declared.Phase.{Phase}
 use Rattle.rules.specs.declared.Phase.the-variants.{Awaiting, Busy, StatusWaiting, Stopped}
+use Rattle.rules.specs.declared.Stands.{Stands}
+use Rattle.rules.specs.declared.Stands.the-variants.{InRoom, InMemory}
 use Rattle.rules.specs.Words.{one}
+use Rattle.rules.specs.Descriptors.{numberOf as startOf}
 use Rattle.rules.specs.Step.{Event}
 use Rattle.rules.specs.Promise.{Left, leaves}
 use Rattle.image.specs.Image.{worldOf, put}
@@ -21,16 +24,17 @@ pub record Called : Type 0 where
 abbrev pub called : ℕ → List ℕ → List ℕ → List ℕ → Called
 called returned image memory room = record { returned = returned; image = image; memory = memory; room = room }
 
--- the answer in the low byte, the count of what was handed out above it
-abbrev pub returns : ℕ → ℕ → ℕ
-returns answer count = answer + 256 * count
+-- the answer in the low byte, the count of what was handed out above it; and where a reply stands in the memory, bit 48 and its start from bit 32 on
+abbrev pub returns : ℕ → ℕ → Stands → ℕ
+returns answer count InRoom = answer + 256 * count
+returns answer count (InMemory at) = answer + 256 * count + 0x100000000 * (0x10000 + startOf at)
 
 -- what a call makes of an image, a memory, an event and the room that is lent to it: the image with the configuration bytes written and the change
 -- made, so that a refused call, which writes and changes nothing, leaves it byte for byte
 abbrev pub calls : List ℕ → List ℕ → (ℕ → Event) → List ℕ → Called
 calls image memory event room =
     let l : Left = leaves (worldOf image memory) event room in
-    called (returns (l .answer) (l .count)) (put (l .change) (l .bytes ++ drop 16 image)) (l .memory) (l .room)
+    called (returns (l .answer) (l .count) (l .stands)) (put (l .change) (l .bytes ++ drop 16 image)) (l .memory) (l .room)
 
 -- a call that is lent no memory: with every memory, and it leaves it as it is
 abbrev pub CallTold : List ℕ → (ℕ → Event) → List ℕ → ℕ → List ℕ → List ℕ → Type 0

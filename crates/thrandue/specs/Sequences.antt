@@ -4,6 +4,8 @@ use mathlib.Core.Path.{_≡_}
 use mathlib.Core.Bool.{true}
 use mathlib.Core.List.{List, [], _∷_, _++_}
 use lib.ListN.{length}
+use Rattle.rules.specs.declared.Dock.{Dock}
+use Rattle.rules.specs.declared.Stands.the-variants.{InRoom}
 use Rattle.rules.specs.Held.{World}
 use Rattle.rules.specs.Held.{powered as atPowerOn}
 use Rattle.rules.specs.Step.{Event, BusReset, Control, Packet, Report, StatusRequest, change, step, rules, after, reached}
@@ -17,7 +19,7 @@ use Rattle.thrandue.specs.Calls.{Called, returns, calls}
 
 abbrev pub StandsForIt : Type 0
 StandsForIt =
-    (image memory : List ℕ) (event : ℕ → Event) (room : List ℕ) → length image ≡ 29
+    (image memory : List ℕ) (event : ℕ → Event) (room : List ℕ) → length image ≡ 30
     → (let w : World = worldOf image memory in
     let e : Event = event (length room) in
     let c : Called = calls image memory event room in
@@ -61,8 +63,8 @@ learns s [] = []
 learns s (c ∷ cs) = learnt (calling s c .returned) (calling s c .room) ∷ learns (calling s c .image, calling s c .memory) cs
 
 -- from thrandue_power_on on
-abbrev pub partsSince : List ℕ → List Call → Parts
-partsSince memory cs = partsAfter (powered, memory) cs
+abbrev pub partsSince : Dock → List ℕ → List Call → Parts
+partsSince dock memory cs = partsAfter (powered dock, memory) cs
 
 -- the world that they stand for
 abbrev pub standsFor : Parts → World
@@ -74,15 +76,15 @@ abbrev pub ruled : World → List Call → List Learnt
 ruled w [] = []
 ruled w (c ∷ cs) =
     let l : Left = leaves w (c .event) (c .room) in
-    learnt (returns (l .answer) (l .count)) (l .room) ∷ ruled (step w (eventOf c) .next) cs
+    learnt (returns (l .answer) (l .count) (l .stands)) (l .room) ∷ ruled (step w (eventOf c) .next) cs
 
 -- After any calls from power-on, whatever their lengths and contents, the caller has learnt what the rules say, and the image and the memory stand for
 -- the world that they leave. That a packet is bytes is what its type says.
 abbrev pub FromPowerOn : Type 0
 FromPowerOn =
-    (memory : List ℕ) (cs : List Call) → AllOfBytes (eventsOf cs)
-    → (learns (powered, memory) cs ≡ ruled (atPowerOn memory) cs)
-    × (standsFor (partsSince memory cs) ≡ reached rules memory (eventsOf cs))
+    (dock : Dock) (memory : List ℕ) (cs : List Call) → AllOfBytes (eventsOf cs)
+    → (learns (powered dock, memory) cs ≡ ruled (atPowerOn dock memory) cs)
+    × (standsFor (partsSince dock memory cs) ≡ reached rules dock memory (eventsOf cs))
 
 -- ---- demand 3, of calls
 
@@ -90,9 +92,9 @@ FromPowerOn =
 abbrev pub Hushed : Event → List ℕ → Learnt → Type 0
 Hushed BusReset room l = Unit {0}
 Hushed (Control setup host n) room l = Unit {0}
-Hushed (Packet p n) room l = (answer : ℕ) × (l ≡ learnt (returns answer 0) room)
+Hushed (Packet p n) room l = (answer : ℕ) × (l ≡ learnt (returns answer 0 InRoom) room)
 Hushed (Report direction failed amount) room l = Unit {0}
-Hushed (StatusRequest n) room l = (answer : ℕ) × (l ≡ learnt (returns answer 0) room)
+Hushed (StatusRequest n) room l = (answer : ℕ) × (l ≡ learnt (returns answer 0 InRoom) room)
 
 abbrev pub AllHushed : List Call → List Learnt → Type 0
 AllHushed [] ls = Unit {0}
@@ -102,19 +104,19 @@ AllHushed (c ∷ cs) (l ∷ ls) = Hushed (eventOf c) (c .room) l × AllHushed cs
 -- "Until the boundary named in document 01, no register operation and no status packet is handed out."
 abbrev pub CallsAreSilent : Type 0
 CallsAreSilent =
-    (memory : List ℕ) (history : List Call) (d : Call) (since : List Call) → AllOfBytes (eventsOf (history ++ d ∷ since))
-    → Stop rules memory (eventsOf history) (eventOf d) (eventsOf since)
-    → AllHushed (d ∷ since) (learns (partsSince memory history) (d ∷ since))
+    (dock : Dock) (memory : List ℕ) (history : List Call) (d : Call) (since : List Call) → AllOfBytes (eventsOf (history ++ d ∷ since))
+    → Stop rules dock memory (eventsOf history) (eventOf d) (eventsOf since)
+    → AllHushed (d ∷ since) (learns (partsSince dock memory history) (d ∷ since))
 
 -- "After it, the bridge is in the state of one that never received the damaged packet nor anything since, save accepted vendor writes and the
 -- bus reset or configuration change, if one was the boundary": `kept` are the calls of these.
 abbrev pub CallsResume : Type 0
 CallsResume =
-    (memory : List ℕ) (history : List Call) (d : Call) (since : List Call) (b : Call) (kept : List Call)
+    (dock : Dock) (memory : List ℕ) (history : List Call) (d : Call) (since : List Call) (b : Call) (kept : List Call)
     → AllOfBytes (eventsOf (history ++ (d ∷ since ++ b ∷ []))) → AllOfBytes (eventsOf (history ++ kept))
-    → Stop rules memory (eventsOf history) (eventOf d) (eventsOf since)
-    → (let stopped : World = step (reached rules memory (eventsOf history)) (eventOf d) .next in
+    → Stop rules dock memory (eventsOf history) (eventOf d) (eventsOf since)
+    → (let stopped : World = step (reached rules dock memory (eventsOf history)) (eventOf d) .next in
     let last : World = after rules stopped (eventsOf since) in
     boundary rules last (eventOf b) ≡ true
     → eventsOf kept ≡ keptWrites rules stopped (eventsOf since) ++ keptBoundary rules last (eventOf b)
-    → standsFor (partsSince memory (history ++ (d ∷ since ++ b ∷ []))) ≡ standsFor (partsSince memory (history ++ kept)))
+    → standsFor (partsSince dock memory (history ++ (d ∷ since ++ b ∷ []))) ≡ standsFor (partsSince dock memory (history ++ kept)))

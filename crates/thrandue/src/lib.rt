@@ -6,7 +6,7 @@ ghost use lib.ListN.{length, drop};
 ghost use Rattle.outcomes.specs.Outcomes.{leftBy};
 ghost use Rattle.rules.specs.Held.{world, configuration};
 ghost use Rattle.rules.specs.Promise.{served};
-ghost use Rattle.rules.specs.Requests.{Known};
+ghost use Rattle.rules.specs.declared.Stands.the-variants.{InRoom, InMemory};
 ghost use Rattle.rules.specs.Step.{BusReset, Control, Packet, Report, StatusRequest};
 ghost use Rattle.image.specs.Image.{bytesOf, decode, powered, put};
 ghost use Rattle.thrandue.specs.Calls.{called, returns, calls, CallTold, phaseNumber, haltNumber};
@@ -14,18 +14,27 @@ use bridge::Outcome;
 use image::IMAGE;
 use requests::Judgement;
 use rules::Bridge;
+use rules::Dock;
 use rules::Phase;
 use rules::Request;
 use rules::Setup;
+use rules::addresses::Address;
 use rules::answers;
 
 // What an event leaves in the image and returns.
 fn leave(image: &mut [u8; IMAGE], o: Outcome) -> u32
-    ensures { λ r. ⌜ (r ≡ returns (o .answer) (o .count)) × (now (image .exit) ≡ put (o .change) (now (image .entry))) ⌝ }
+    ensures { λ r. ⌜ (r ≡ returns (o .answer) (o .count) InRoom) × (now (image .exit) ≡ put (o .change) (now (image .entry))) ⌝ }
 {
     let change = o.change;
     image::make(image, change);
     o.answer as u32 + 256 * o.count as u32
+}
+
+// What a request for a descriptor returns that is found.
+fn found(at: Address, count: u16) -> u64
+    ensures { λ r. ⌜ r ≡ returns 0 count (InMemory at) ⌝ }
+{
+    256 * count as u64 + 0x100000000 * (0x10000 + at.number() as u64)
 }
 
 // A granted request, with the configuration bytes at the front of the image.
@@ -39,16 +48,19 @@ fn serve(
     reply: &mut [u8],
 ) -> Outcome
     requires { ⌜ 16 ≤ length (now image) ⌝ }
-    ensures { λ o. ⌜ (leftBy o (bytesOf (now (image .exit))) (now (memory .exit)) (now (reply .exit)) ≡ served (Known r) s (now (host .entry)) (world b (bytesOf (now (image .entry))) (now (memory .entry))) (now (reply .entry))) × (now (image .exit) ≡ bytesOf (now (image .exit)) ++ drop 16 (now (image .entry))) ⌝ }
+    ensures { λ o. ⌜ (leftBy o (bytesOf (now (image .exit))) (now (memory .exit)) (now (reply .exit)) ≡ served r s (now (host .entry)) (world b (bytesOf (now (image .entry))) (now (memory .entry))) (now (reply .entry))) × (now (image .exit) ≡ bytesOf (now (image .exit)) ++ drop 16 (now (image .entry))) ⌝ }
 {
     bridge::serve(r, s, b, &mut image[0..16], host, memory, reply)
 }
 
 #[no_mangle]
-pub extern "C" fn thrandue_power_on(image: &mut [u8; IMAGE]) -> u32
-    ensures { λ r. ⌜ called r (now (image .exit)) [] [] ≡ called 0 powered [] [] ⌝ }
+pub extern "C" fn thrandue_power_on(image: &mut [u8; IMAGE], bus_powered: bool) -> u32
+    ensures { λ r. ⌜ called r (now (image .exit)) [] [] ≡ called 0 (powered (record { «bus_powered» = «bus_powered» })) [] [] ⌝ }
 {
-    image::power_on(image);
+    let dock = Dock {
+        bus_powered: bus_powered,
+    };
+    image::power_on(image, dock);
     answers::DONE as u32
 }
 
@@ -66,18 +78,18 @@ pub extern "C" fn thrandue_control(
     host: &[u8],
     memory: &mut [u8],
     reply: &mut [u8],
-) -> u32
+) -> u64
     ensures { λ r. ⌜ called r (now (image .exit)) (now (memory .exit)) (now (reply .exit)) ≡ calls (now (image .entry)) (now (memory .entry)) (Control (now (setup .entry)) (now (host .entry))) (now (reply .entry)) ⌝ }
 {
-    let configured = image::is_configured(image);
-    let judgement = requests::judge(configured, memory.len(), setup, host.len(), reply.len());
+    let judgement = requests::judge(image::seen(image), memory, setup, host.len(), reply.len());
     match judgement {
-        Judgement::Refused(answer) => answer as u32,
+        Judgement::Refused(answer) => answer as u64,
         Judgement::Granted(r, s) => {
             let b = image::load(image);
             let o = serve(r, s, b, image, host, memory, reply);
-            leave(image, o)
+            leave(image, o) as u64
         }
+        Judgement::Found(at, count) => found(at, count),
     }
 }
 

@@ -1,0 +1,16 @@
+-- `thrandue::thrandue_power_on` meets its contract.
+use borrow.Author.Needs.{needs}
+use Rattle.thrandue.proofs.thrandue_power_on.Statement.{statement}
+use Rattle.thrandue.proofs.thrandue_power_on.Tie as tie
+
+power-on-requires : tie.Need-power-on-requires
+power-on-requires c κs = search needs
+
+cast-result : tie.Need-cast-result
+cast-result c = search needs
+
+returns : tie.Need-returns
+returns c = rw (c .power-on .ensures)
+
+pub thrandue-power-on-spec : {M : Type 1} → statement M
+thrandue-power-on-spec = tie.close (tie.spec power-on-requires cast-result returns)
