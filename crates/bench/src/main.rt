@@ -5,6 +5,7 @@ ghost use Rattle.bench.specs.Streams.{Inside};
 use libc::STDIN_FILENO;
 use libc::STDOUT_FILENO;
 use rules::Bridge;
+use rules::Dock;
 
 // The bridge, and of the block that was read the part from `start` to `end` that is still to be taken. `last`: the input has ended.
 struct Stream {
@@ -79,8 +80,9 @@ fn turned(
 // A proved loop has to end, and nothing says that a stream does: it counts down from a number that no run uses up.
 fn serve(input: &mut [u8], memory: &mut [u8], output: &mut [u8]) {
     let mut bytes = rules::power_on_bytes();
+    let dock = Dock { bus_powered: false };
     let mut s = Stream {
-        bridge: Bridge::power_on(),
+        bridge: Bridge::power_on(dock),
         start: 0,
         end: 0,
         last: false,

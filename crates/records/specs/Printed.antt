@@ -3,8 +3,11 @@ use Prim.Native.Nat.{ℕ, _+_, _-_, _≤_}
 use mathlib.Core.Path.{_≡_}
 use mathlib.Core.Bool.{Bool, true, false}
 use mathlib.Core.List.{List, [], _∷_, _++_}
-use lib.ListN.{length, take}
+use lib.ListN.{length, take, drop}
 use Rattle.rules.specs.declared.Bridge.{Bridge}
+use Rattle.rules.specs.declared.Stands.{Stands}
+use Rattle.rules.specs.declared.Stands.the-variants.{InRoom, InMemory}
+use Rattle.rules.specs.Descriptors.{numberOf}
 use Rattle.rules.specs.Held.{World, world}
 use Rattle.rules.specs.Changes.{made}
 use Rattle.rules.specs.Step.{Event, step}
@@ -17,6 +20,11 @@ use Rattle.records.specs.declared.Turned.{Turned}
 use Rattle.records.specs.Records.{lengthOf}
 use Rattle.records.specs.Lines.{number, each, line}
 use Rattle.records.specs.Runs.{Run, before, eventIn, turnIn}
+
+-- the bytes at whose front a reply of this many stands
+abbrev pub shownOf : Stands → ℕ → List ℕ → List ℕ → List ℕ
+shownOf InRoom count memory room = room
+shownOf (InMemory at) count memory room = take count (drop (numberOf at) memory)
 
 -- the line of an outcome, with what it handed out at the front of `out`, and the bridge with its change made
 pub record Line (f : ℕ → List ℕ) (b : Bridge) (o : Outcome) (out room : List ℕ) (at : ℕ) (p : Printed) (now : List ℕ) : Type 0 where

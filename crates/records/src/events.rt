@@ -8,13 +8,14 @@ ghost use Rattle.rules.specs.Held.{world};
 ghost use Rattle.rules.specs.Packets.{signatureOf};
 ghost use Rattle.records.specs.Records.{torn, eventOf, unfinished as cut, headOf};
 ghost use Rattle.records.specs.Lines.{lineMost, hexByte, hexWord};
-ghost use Rattle.records.specs.Printed.{Line, Prints, turned, Turns};
+ghost use Rattle.records.specs.Printed.{shownOf, Line, Prints, turned, Turns};
 use crate::Head;
 use crate::Printed;
 use crate::Turned;
 use crate::lines;
 use bridge::Outcome;
 use rules::Bridge;
+use rules::Stands;
 
 const BUS_RESET: u16 = 1;
 
@@ -77,7 +78,7 @@ fn head_of(input: &[u8], last: bool) -> Head
     Head::Whole
 }
 
-// The line of an outcome whose reply stands in the buffer.
+// The line of an outcome whose reply stands at the front of some bytes.
 fn print_bytes(b: Bridge, o: Outcome, reply: &[u8], output: &mut [u8], at: usize) -> Printed
     requires { ⌜ (o .count ≤ length (now reply)) × (length (now reply) ≤ 4096) × (at + lineMost ≤ length (now output)) ⌝ }
     ensures { λ r. ⌜ Line hexByte b o (now (reply .entry)) (now (output .entry)) at r (now (output .exit)) ⌝ }
@@ -112,6 +113,16 @@ fn setup_length(n: usize) -> usize
     if n < SETUP { n } else { SETUP }
 }
 
+// The bytes at whose front a reply stands.
+fn shown<'a>(stands: Stands, count: u16, memory: &'a [u8], reply: &'a [u8]) -> &'a [u8]
+    ensures { λ r. ⌜ now r ≡ shownOf stands count (now (memory .entry)) (now (reply .entry)) ⌝ }
+{
+    match stands {
+        Stands::InRoom => reply,
+        Stands::InMemory(at) => descriptors::find(memory, at, count),
+    }
+}
+
 fn print_control(
     payload: &[u8],
     b: Bridge,
@@ -125,8 +136,10 @@ fn print_control(
     ensures { λ r. ⌜ Prints (world b (now (bytes .entry)) (now (memory .entry))) (eventOf 2 (now (payload .entry))) (now (output .entry)) at r (now (bytes .exit)) (now (memory .exit)) (now (output .exit)) ⌝ }
 {
     let n = setup_length(payload.len());
-    let o = bridge::control(b, bytes, &payload[..n], &payload[n..], memory, reply);
-    print_bytes(b, o, reply, output, at)
+    let c = bridge::control(b, bytes, &payload[..n], &payload[n..], memory, reply);
+    let o = c.outcome;
+    let stands = c.stands;
+    print_bytes(b, o, shown(stands, o.count, memory, reply), output, at)
 }
 
 fn print_packet(payload: &[u8], b: Bridge, signature: u8, output: &mut [u8], at: usize) -> Printed

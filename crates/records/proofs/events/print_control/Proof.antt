@@ -6,8 +6,7 @@ use lib.ListN.{length, take, drop}
 use native.Mathlib.Omega.{arith}
 use borrow.Author.Needs.{needs}
 use Rattle.rules.specs.Held.{world}
-use Rattle.rules.specs.Step.{Control}
-use Rattle.records.proofs.Printing.{count-fits, control-prints}
+use Rattle.records.proofs.Printing.{shown-fits, control-prints}
 use Rattle.records.proofs.events.print_control.Statement.{statement}
 use Rattle.records.proofs.events.print_control.Tie as tie
 
@@ -32,13 +31,17 @@ part-control-end c = search needs
 control-requires : tie.Need-control-requires
 control-requires c κs = search needs
 
+shown-requires : tie.Need-shown-requires
+shown-requires c κs = search needs
+
 print-bytes-requires : tie.Need-print-bytes-requires
 print-bytes-requires c κs =
-    let start = c .before .before .before .before .before .before .before .before .before .before .before .before .before .before .before .before .before in
+    let start = c .before .before .before .before .before .before .before .before .before .before .before .before .before .before .before .before .before .before .before .before in
     let p = start .args .payload .now in
-    let n = c .before .before .before .before .before .before .before .before .before .before .before .before .setup-length .result in
-    let fits = count-fits (world (start .args .b) (start .args .bytes .now) (start .args .memory .now)) (Control (take n p) (take (length p - n) (drop n p))) (start .args .reply .now) (c .before .before .before .before .before .before .control .result) _ _ _ (c .before .before .before .before .before .before .control .ensures) (c .before .before .before .reply .given) in
-    (fits, omega (arith, c .before .before .before .reply .given, start .pre .0), start .pre .1)
+    let n = c .before .before .before .before .before .before .before .before .before .before .before .before .before .before .before .setup-length .result in
+    let left = c .before .before .before .before .before .before .before .before .before .control in
+    let fits = shown-fits (world (start .args .b) (start .args .bytes .now) (start .args .memory .now)) (take n p) (take (length p - n) (drop n p)) (start .args .reply .now) (left .result .outcome) _ _ _ (left .result .stands) (left .ensures) (c .before .before .before .before .before .before .reply .given) (start .pre .0) (c .before .shown .ensures) in
+    (fits .0, fits .1, start .pre .1)
 
 same-length : tie.Need-same-length
 same-length c = search needs
@@ -51,8 +54,9 @@ same-length-3 c = search needs
 
 returns : tie.Need-returns
 returns c =
-    let start = c .before .before .before .before .before .before .before .before .before .before .before .before .before .before .before .before .before .before .before .before in
-    control-prints (world (start .args .b) (start .args .bytes .now) (start .args .memory .now)) (start .args .payload .now) (start .args .reply .now) (c .before .before .before .before .before .before .before .before .before .before .before .before .before .before .before .setup-length .ensures) (start .pre .0) (c .before .before .before .before .before .before .before .before .before .control .ensures) (c .before .before .print-bytes .ensures)
+    let start = c .before .before .before .before .before .before .before .before .before .before .before .before .before .before .before .before .before .before .before .before .before .before .before in
+    let left = c .before .before .before .before .before .before .before .before .before .before .before .before .control in
+    control-prints (world (start .args .b) (start .args .bytes .now) (start .args .memory .now)) (start .args .payload .now) (start .args .reply .now) (left .result .stands) (c .before .before .before .before .before .before .before .before .before .before .before .before .before .before .before .before .before .before .setup-length .ensures) (start .pre .0) (left .ensures) (c .before .before .before .before .shown .ensures) (c .before .before .print-bytes .ensures)
 
 pub print-control-spec : {M : Type 1} → statement M
 print-control-spec =
@@ -64,6 +68,7 @@ print-control-spec =
     part-control-start
     part-control-end
     control-requires
+    shown-requires
     print-bytes-requires
     same-length
     same-length-2
