@@ -12,20 +12,31 @@ enum {
     ERASED = 0xFF
 };
 
-static size_t *named_size(struct bench_sizes *sizes, const char *name) {
+static size_t *named_size(struct bench_options *options, const char *name) {
     if (strcmp(name, "--memory") == 0)
-        return &sizes->memory;
+        return &options->memory;
     if (strcmp(name, "--reply") == 0)
-        return &sizes->reply;
-    return strcmp(name, "--operations") == 0 ? &sizes->operations : NULL;
+        return &options->reply;
+    return strcmp(name, "--operations") == 0 ? &options->operations : NULL;
+}
+
+static bool *named_fact(struct bench_options *options, const char *name) {
+    return strcmp(name, "--bus-powered") == 0 ? &options->bus_powered : NULL;
 }
 
 struct bench_arguments bench_arguments(char **argv, const char *help) {
     return (struct bench_arguments){
         .rest = argv + 1,
         .help = help,
-        .sizes = {.memory = 2048, .reply = 4096, .operations = 11},
+        .options = {.memory = 2048, .reply = 4096, .operations = 11, .bus_powered = false},
     };
+}
+
+static size_t size_after(struct bench_arguments *arguments, const char *option) {
+    uint64_t number;
+    if (*arguments->rest == NULL || !command_number(*arguments->rest++, SIZE_MOST, &number))
+        exit(command_misused("%s takes a number from 0 to %d", option, SIZE_MOST));
+    return (size_t)number;
 }
 
 const char *bench_argument(struct bench_arguments *arguments) {
@@ -34,14 +45,14 @@ const char *bench_argument(struct bench_arguments *arguments) {
         arguments->rest++;
         if (strcmp(argument, "--help") == 0)
             exit(command_help(arguments->help));
-        size_t *size = named_size(&arguments->sizes, argument);
-        if (size == NULL)
+        size_t *size = named_size(&arguments->options, argument);
+        bool *fact = named_fact(&arguments->options, argument);
+        if (size != NULL)
+            *size = size_after(arguments, argument);
+        else if (fact != NULL)
+            *fact = true;
+        else
             return argument;
-        uint64_t number;
-        if (*arguments->rest == NULL || !command_number(*arguments->rest, SIZE_MOST, &number))
-            exit(command_misused("%s takes a number from 0 to %d", argument, SIZE_MOST));
-        *size = (size_t)number;
-        arguments->rest++;
     }
     return NULL;
 }
@@ -59,14 +70,14 @@ static void *room(size_t bytes) {
     return lent;
 }
 
-void bench_open(struct bench *bench, struct bench_sizes sizes) {
-    bench->sizes = sizes;
+void bench_open(struct bench *bench, struct bench_options options) {
+    bench->options = options;
     bench->image = room(sizeof *bench->image);
-    bench->memory = room(sizes.memory);
-    bench->reply = room(sizes.reply);
-    bench->operations = room(sizes.operations * sizeof *bench->operations);
+    bench->memory = room(options.memory);
+    bench->reply = room(options.reply);
+    bench->operations = room(options.operations * sizeof *bench->operations);
     bench->payload = room(RECORD_PAYLOAD_MOST);
-    thrandue_power_on(bench->image);
+    thrandue_power_on(bench->image, options.bus_powered);
 }
 
 void bench_close(struct bench *bench) {
@@ -77,18 +88,18 @@ void bench_close(struct bench *bench) {
     free(bench->payload);
 }
 
-static uint32_t control_event(struct bench *bench, const uint8_t *payload, size_t length) {
+static uint64_t control_event(struct bench *bench, const uint8_t *payload, size_t length) {
     size_t setup_len = length < SETUP_LENGTH ? length : SETUP_LENGTH;
     return thrandue_control(bench->image, payload, setup_len, payload + setup_len,
-                            length - setup_len, bench->memory, bench->sizes.memory, bench->reply,
-                            bench->sizes.reply);
+                            length - setup_len, bench->memory, bench->options.memory, bench->reply,
+                            bench->options.reply);
 }
 
 uint8_t *bench_payload(const struct bench *bench, const struct record *record) {
     return bench->payload + RECORD_PAYLOAD_MOST - record->length;
 }
 
-uint32_t bench_event(struct bench *bench, const struct record *record) {
+uint64_t bench_event(struct bench *bench, const struct record *record) {
     uint8_t *payload = bench_payload(bench, record);
     memcpy(payload, record->payload, record->length);
     switch (record->kind) {
@@ -98,10 +109,14 @@ uint32_t bench_event(struct bench *bench, const struct record *record) {
         return control_event(bench, payload, record->length);
     case RECORD_PACKET:
         return thrandue_packet(bench->image, payload, record->length, bench->operations,
-                               bench->sizes.operations);
+                               bench->options.operations);
     case RECORD_REPORT:
         return thrandue_report(bench->image, payload[0], payload[1], record_load(payload + 2, 4));
     default:
-        return thrandue_status(bench->image, bench->reply, bench->sizes.reply);
+        return thrandue_status(bench->image, bench->reply, bench->options.reply);
     }
+}
+
+const uint8_t *bench_reply(const struct bench *bench, uint64_t outcome) {
+    return thrandue_reply(outcome, bench->memory, bench->reply);
 }

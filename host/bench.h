@@ -5,17 +5,20 @@
 #include "record.h"
 #include "thrandue.h"
 
+#include <stdbool.h>
 #include <stddef.h>
 #include <stdint.h>
 
-struct bench_sizes {
+/* The sizes of what is lent, and what is fixed at power-on. */
+struct bench_options {
     size_t memory;
     size_t reply;
     size_t operations;
+    bool bus_powered;
 };
 
 struct bench {
-    struct bench_sizes sizes;
+    struct bench_options options;
     thrandue_image *image;
     uint8_t *memory;
     uint8_t *reply;
@@ -23,34 +26,38 @@ struct bench {
     uint8_t *payload;
 };
 
-/* A command line with options for other sizes than document 01's. */
+/* A command line with options for another bench than document 01's. */
 struct bench_arguments {
     char **rest;
     const char *help;
-    struct bench_sizes sizes;
+    struct bench_options options;
 };
 
 #define BENCH_OPTIONS_HELP                                                                         \
     "  --memory N      bytes in the memory part, 0 for none (2048)\n"                              \
     "  --reply N       bytes of reply room (4096)\n"                                               \
     "  --operations N  room for operations (11)\n"                                                 \
+    "  --bus-powered   the dock is bus powered\n"                                                  \
     "  --help          this text\n"
 
 struct bench_arguments bench_arguments(char **argv, const char *help);
 
-/* The next argument that is none of these options, NULL at the end; the sizes are those given up to
- * it. Ends the program after --help and for an option that is not followed by its number. */
+/* The next argument that is none of these options, NULL at the end; the options are those given up
+ * to it. Ends the program after --help and for an option that is not followed by its number. */
 const char *bench_argument(struct bench_arguments *arguments);
 
 /* Ends the program where there is no room. */
-void bench_open(struct bench *bench, struct bench_sizes sizes);
+void bench_open(struct bench *bench, struct bench_options options);
 void bench_close(struct bench *bench);
 
 /* Where an event's payload is lent: a record of this length at the end of its room, so that a read
  * beyond it is one beyond the room. */
 uint8_t *bench_payload(const struct bench *bench, const struct record *record);
 
-/* One event and its outcome; reply or operations stand in the bench's rooms. */
-uint32_t bench_event(struct bench *bench, const struct record *record);
+/* One event and its outcome; operations stand in the bench's room, and a reply where bench_reply
+ * says. */
+uint64_t bench_event(struct bench *bench, const struct record *record);
+
+const uint8_t *bench_reply(const struct bench *bench, uint64_t outcome);
 
 #endif

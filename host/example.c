@@ -3,6 +3,7 @@
 #include "thrandue.h"
 
 #include <stdio.h>
+#include <string.h>
 
 enum source {
     CONTROL,
@@ -23,6 +24,7 @@ struct arrival {
         0, 0, 0, 0, 0, 0xE7
 
 static const struct arrival arrivals[] = {
+    {CONTROL, 8, {0x80, 0x06, 0, 1, 0, 0, 18, 0}}, /* Get Descriptor, device */
     {BULK_OUT, 31, {COMMAND(6)}},
     {CONTROL, 8, {0x00, 0x09, 0x02, 0, 0, 0, 0, 0}}, /* Set Configuration 2 */
     {BULK_OUT, 31, {COMMAND(7)}},
@@ -49,7 +51,7 @@ struct dock {
     uint8_t reply[64];
 };
 
-static uint32_t take(struct dock *dock, const struct arrival *arrival) {
+static uint64_t take(struct dock *dock, const struct arrival *arrival) {
     switch (arrival->source) {
     case CONTROL:
         return thrandue_control(&dock->image, arrival->bytes, arrival->length, NULL, 0,
@@ -93,19 +95,29 @@ static uint8_t stalled(const thrandue_image *image) {
     return thrandue_halts(image);
 }
 
-static void show(const struct dock *dock, enum source source, uint32_t outcome) {
+static void show(const struct dock *dock, enum source source, uint64_t outcome) {
     uint8_t answer = thrandue_answer(outcome);
+    const uint8_t *reply = thrandue_reply(outcome, dock->memory, dock->reply);
     printf("%s, answer %u, phase %u, halts %u, stalled %u:", on_the_wire(source, answer), answer,
            thrandue_phase(&dock->image), thrandue_halts(&dock->image), stalled(&dock->image));
     for (uint32_t i = 0; i < thrandue_count(outcome); i++)
         printf(source == BULK_OUT ? " %04X" : " %02X",
-               source == BULK_OUT ? dock->operations[i] : dock->reply[i]);
+               source == BULK_OUT ? dock->operations[i] : reply[i]);
     printf("\n");
+}
+
+/* The memory part as it was written before the dock was shipped: a device descriptor at 0x10. */
+static void fit(struct dock *dock) {
+    static const uint8_t device[] = {18,   1,    0x00, 0x02, 0, 0, 0, 64, 0xAB,
+                                     0x05, 0x60, 0x00, 0x10, 1, 0, 0, 0,  1};
+    memset(dock->memory, 0xFF, sizeof dock->memory);
+    memcpy(dock->memory + 0x10, device, sizeof device);
 }
 
 int main(void) {
     static struct dock dock;
-    thrandue_power_on(&dock.image);
+    fit(&dock);
+    thrandue_power_on(&dock.image, false);
     for (size_t i = 0; i < sizeof arrivals / sizeof arrivals[0]; i++)
         show(&dock, arrivals[i].source, take(&dock, &arrivals[i]));
     return 0;

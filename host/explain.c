@@ -22,6 +22,11 @@ struct word {
 static const struct word places[] = {
     {PLACE_CONFIGURATION, "configuration bytes"}, {PLACE_MEMORY, "memory"}, {0}};
 static const struct word pipes[] = {{ENDPOINT_OUT, "bulk out"}, {ENDPOINT_IN, "bulk in"}, {0}};
+static const struct word descriptors[] = {{DESCRIPTOR_DEVICE, "device"},
+                                          {DESCRIPTOR_CONFIGURATION, "configuration"},
+                                          {DESCRIPTOR_STRING, "string"},
+                                          {DESCRIPTOR_QUALIFIER, "device qualifier"},
+                                          {0}};
 static const struct word flags[] = {{0x00, "out"}, {FLAGS_IN, "in"}, {0}};
 static const struct word directions[] = {{0, "no direction"}, {1, "in"}, {2, "out"}, {0}};
 static const struct word failures[] = {{0, "good"}, {1, "failed"}, {0}};
@@ -45,6 +50,8 @@ static const struct word answers[] = {
     {15, "operation room too short"},
     {16, "wrong phase"},
     {17, "report malformed"},
+    {18, "no such descriptor"},
+    {19, "descriptor runs past the memory"},
     {0},
 };
 
@@ -125,6 +132,15 @@ static void show_length(unsigned number) {
     printf(", wLength %u", number);
 }
 
+/* Its type and its index, which only strings have. */
+static void show_descriptor(unsigned number) {
+    unsigned type = number >> 8;
+    unsigned index = number & 0xFF;
+    show_word(descriptors, "type", 2, type);
+    if (type == DESCRIPTOR_STRING || index != 0)
+        printf(", index %u", index);
+}
+
 typedef void field_shower(unsigned number);
 
 /* A field of a request: shown as what it means or, where the table fixes it, when it differs. */
@@ -142,6 +158,7 @@ struct request {
 
 static const struct request requests[] = {
     {0x00, 0x09, "Set Configuration", {{show_configuration, 0}, {NULL, 0}, {NULL, 0}}},
+    {0x80, 0x06, "Get Descriptor", {{show_descriptor, 0}, {NULL, 0}, {show_length, 0}}},
     {0x80, 0x08, "Get Configuration", {{NULL, 0}, {NULL, 0}, {NULL, 1}}},
     {0x02, 0x01, "Clear Feature, halt", {{NULL, 0}, {show_pipe, 0}, {NULL, 0}}},
     {0x82, 0x00, "Get Status, pipe", {{NULL, 0}, {show_pipe, 0}, {NULL, 2}}},
@@ -306,23 +323,35 @@ static void explain_status(const uint8_t *packet) {
     show_word(statuses, "status", 2, packet[STATUS_STATUS]);
 }
 
-static void explain_handed_out(const struct bench *bench, uint16_t kind, uint32_t count) {
-    if (kind == RECORD_PACKET)
-        explain_operations(bench->operations, count);
-    else if (kind == RECORD_STATUS && count == STATUS_LENGTH)
-        explain_status(bench->reply);
+/* A part of the memory is told with its place there, even an empty one. */
+static void explain_reply(const struct bench *bench, uint64_t outcome) {
+    const uint8_t *reply = bench_reply(bench, outcome);
+    uint32_t count = thrandue_count(outcome);
+    if (reply != bench->reply)
+        printf(" | reply length %lu, in the memory at 0x%04X", (unsigned long)count,
+               (unsigned)(reply - bench->memory));
     else if (count != 0)
         printf(" | reply length %lu", (unsigned long)count);
 }
 
-void explain_event(const struct bench *bench, const struct record *record, uint32_t outcome) {
+static void explain_handed_out(const struct bench *bench, uint16_t kind, uint64_t outcome) {
+    uint32_t count = thrandue_count(outcome);
+    if (kind == RECORD_PACKET)
+        explain_operations(bench->operations, count);
+    else if (kind == RECORD_STATUS && count == STATUS_LENGTH)
+        explain_status(bench->reply);
+    else
+        explain_reply(bench, outcome);
+}
+
+void explain_event(const struct bench *bench, const struct record *record, uint64_t outcome) {
     unsigned answer = thrandue_answer(outcome);
     const char *meaning = called(answers, answer);
     fputs("    ", stdout);
     explain_arrival(record);
-    printf(" | %u %s", answer, meaning == NULL ? "not an answer of document 01" : meaning);
+    printf(" | %u %s", answer, meaning == NULL ? "not an answer of the papers" : meaning);
     if (answer == THRANDUE_DONE)
-        explain_handed_out(bench, record->kind, thrandue_count(outcome));
+        explain_handed_out(bench, record->kind, outcome);
     printf(" | configuration %u", (unsigned)thrandue_configuration(bench->image));
     show_word(phases, "phase", 2, thrandue_phase(bench->image));
     show_word(halts, "halts", 2, thrandue_halts(bench->image));

@@ -8,6 +8,6 @@
 #include <stdint.h>
 
 /* Prints the line of an event that the bench has just answered so. */
-void explain_event(const struct bench *bench, const struct record *record, uint32_t outcome);
+void explain_event(const struct bench *bench, const struct record *record, uint64_t outcome);
 
 #endif

@@ -33,4 +33,12 @@ enum {
     ENDPOINT_IN = 0x82
 };
 
+/* USB 2.0, table 9-5. */
+enum {
+    DESCRIPTOR_DEVICE = 1,
+    DESCRIPTOR_CONFIGURATION = 2,
+    DESCRIPTOR_STRING = 3,
+    DESCRIPTOR_QUALIFIER = 6
+};
+
 #endif

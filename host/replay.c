@@ -26,23 +26,24 @@ struct replay {
 static void answer(void *context, const struct record *record) {
     struct replay *replay = context;
     const struct bench *bench = &replay->bench;
-    uint32_t outcome = bench_event(&replay->bench, record);
+    uint64_t outcome = bench_event(&replay->bench, record);
+    const uint8_t *reply = bench_reply(bench, outcome);
     uint32_t count = thrandue_count(outcome);
     printf("%u", (unsigned)thrandue_answer(outcome));
     for (uint32_t i = 0; i < count; i++) {
         if (record->kind == RECORD_PACKET)
             printf(" %04X", (unsigned)bench->operations[i]);
         else
-            printf(" %02X", (unsigned)bench->reply[i]);
+            printf(" %02X", (unsigned)reply[i]);
     }
     putchar('\n');
     if (replay->explains)
         explain_event(bench, record, outcome);
 }
 
-static int run(const char *name, struct bench_sizes sizes, bool explains) {
+static int run(const char *name, struct bench_options options, bool explains) {
     struct replay replay = {.explains = explains};
-    bench_open(&replay.bench, sizes);
+    bench_open(&replay.bench, options);
     int status = record_each(name, answer, &replay);
     if (status == EXIT_REFUSED)
         puts("torn");
@@ -67,5 +68,5 @@ int main(int argc, char **argv) {
         else
             name = argument;
     }
-    return run(name == NULL ? "-" : name, arguments.sizes, explains);
+    return run(name == NULL ? "-" : name, arguments.options, explains);
 }

@@ -59,6 +59,8 @@ struct form {
 };
 
 static const struct word flag_words[] = {{"out", 0x00}, {"in", 0x80}, {NULL, 0}};
+static const struct word descriptor_words[] = {
+    {"device", 1}, {"configuration", 2}, {"string", 3}, {"qualifier", 6}, {NULL, 0}};
 static const struct word pipe_words[] = {{"out", 0x01}, {"in", 0x82}, {NULL, 0}};
 static const struct word report_words[] = {{"none", 0}, {"in", 1}, {"out", 2}, {NULL, 0}};
 static const struct word failed_words[] = {{"no", 0}, {"yes", 1}, {NULL, 0}};
@@ -67,6 +69,14 @@ static const struct field no_fields[] = {{0}};
 
 static const struct field configuration_fields[] = {
     {"value", 2, 2, NEEDED, DECIMAL, NULL},
+    {0},
+};
+
+static const struct field descriptor_fields[] = {
+    {"type", 3, 1, NEEDED, HEX, descriptor_words},
+    {"index", 2, 1, SPARED, DECIMAL, NULL},
+    {"language", 4, 2, SPARED, HEX, NULL},
+    {"length", 6, 2, NEEDED, DECIMAL, NULL},
     {0},
 };
 
@@ -144,6 +154,7 @@ static const struct form forms[] = {
     {"bus-reset", RECORD_BUS_RESET, 0, {0}, no_fields, NULL},
     {"set-configuration", RECORD_CONTROL, SETUP, {0x00, 0x09}, configuration_fields, NULL},
     {"get-configuration", RECORD_CONTROL, SETUP, {0x80, 0x08, 0, 0, 0, 0, 1}, no_fields, NULL},
+    {"get-descriptor", RECORD_CONTROL, SETUP, {0x80, 0x06}, descriptor_fields, NULL},
     {"clear-halt", RECORD_CONTROL, SETUP, {0x02, 0x01}, pipe_fields, NULL},
     {"get-status", RECORD_CONTROL, SETUP, {0x82, 0x00, 0, 0, 0, 0, 2}, pipe_fields, NULL},
     {"get-max-lun", RECORD_CONTROL, SETUP, {0xA1, 0xFE, 0, 0, 0, 0, 1}, no_fields, NULL},

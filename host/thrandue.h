@@ -3,6 +3,7 @@
 #ifndef THRANDUE_H
 #define THRANDUE_H
 
+#include <stdbool.h>
 #include <stddef.h>
 #include <stdint.h>
 
@@ -15,7 +16,7 @@ extern "C" {
  * and two images of one state may differ: what a finished command held stays in them until the
  * next. */
 typedef struct thrandue_image {
-    uint8_t bytes[29];
+    uint8_t bytes[30];
 } thrandue_image;
 
 /* The caller answers for this: pointers are valid for their type or their length, and do not
@@ -27,12 +28,22 @@ typedef struct thrandue_image {
  * operations were handed out. They stand at the front of the lent room, and the rest of the room is
  * unchanged. Any answer but THRANDUE_DONE hands out nothing and changes no lent byte and no byte of
  * the image, save the two for a damaged packet, which stop the bridge. */
-static inline uint8_t thrandue_answer(uint32_t outcome) {
+static inline uint8_t thrandue_answer(uint64_t outcome) {
     return (uint8_t)(outcome & 0xFF);
 }
 
-static inline uint32_t thrandue_count(uint32_t outcome) {
-    return outcome >> 8;
+static inline uint32_t thrandue_count(uint64_t outcome) {
+    return (uint32_t)(outcome >> 8 & 0xFFFFFF);
+}
+
+/* The reply to Get Descriptor is a part of the lent memory itself, and the reply buffer is then
+ * unchanged: a port sends it from the memory, with no copy, before the next call that may write
+ * there. So a control request's outcome has 32 bits more, which tell where its reply stands: bit 48
+ * is set for the memory, and bits 32 to 47 are then its start there. This is where the first of
+ * thrandue_count bytes is, whichever it is, of the two that were lent. */
+static inline const uint8_t *thrandue_reply(uint64_t outcome, const uint8_t *memory,
+                                            const uint8_t *reply) {
+    return outcome >> 48 != 0 ? memory + (outcome >> 32 & 0xFFFF) : reply;
 }
 
 /* The answers, and what a port does on the wire. For DONE it sends the reply of a control request
@@ -74,11 +85,14 @@ enum {
     THRANDUE_NOT_MEANINGFUL = 14,
     THRANDUE_OPERATION_ROOM = 15,
     THRANDUE_WRONG_PHASE = 16,
-    THRANDUE_MALFORMED = 17
+    THRANDUE_MALFORMED = 17,
+    THRANDUE_NO_DESCRIPTOR = 18,
+    THRANDUE_PAST_MEMORY = 19
 };
 
-/* The image becomes that of a bridge at power-on, whatever it held. Answers DONE. */
-uint32_t thrandue_power_on(thrandue_image *image);
+/* The image becomes that of a bridge at power-on, whatever it held, in a dock that is bus powered
+ * or not. Answers DONE. */
+uint32_t thrandue_power_on(thrandue_image *image, bool bus_powered);
 
 /* Configuration 0, awaiting a command, no halts; the configuration bytes and the memory stay.
  * Answers DONE. */
@@ -86,7 +100,7 @@ uint32_t thrandue_bus_reset(thrandue_image *image);
 
 /* A control request: its setup bytes, the data that the host sent with it, and room for the reply.
  * A legal write changes exactly its addressed bytes, of the configuration or of the memory. */
-uint32_t thrandue_control(thrandue_image *image, const uint8_t *setup, size_t setup_len,
+uint64_t thrandue_control(thrandue_image *image, const uint8_t *setup, size_t setup_len,
                           const uint8_t *host, size_t host_len, uint8_t *memory, size_t memory_len,
                           uint8_t *reply, size_t reply_len);
 
