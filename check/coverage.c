@@ -1,4 +1,4 @@
-/* coverage: counts the answers that sessions meet, against those that document 01 allows. */
+/* coverage: counts the answers that sessions meet, against those that documents 01 and 02 allow. */
 #include "bench.h"
 #include "command.h"
 #include "layout.h"
@@ -9,7 +9,7 @@
 static const char help[] =
     "[OPTION..] FILE [[OPTION..] FILE..]\n"
     "Replays sessions and prints how often each event, the control\n"
-    "requests one by one, met each answer in each phase before it; - where document 01 allows\n"
+    "requests one by one, met each answer in each phase before it; - where the papers allow\n"
     "none. The options hold for the files after them:\n" BENCH_OPTIONS_HELP
     "Status 0: all is allowed, and met 100 times or more; 1: it is not, an event changed what it\n"
     "must leave alone, or a session is torn; 2: bad usage, or a file that cannot be read.\n";
@@ -23,6 +23,7 @@ enum {
 enum event {
     BUS_RESET,
     SET_CONFIGURATION,
+    GET_DESCRIPTOR,
     GET_CONFIGURATION,
     CLEAR_FEATURE,
     GET_STATUS,
@@ -41,10 +42,11 @@ enum event {
 };
 
 static const char *const event_names[EVENTS] = {
-    "bus reset",         "Set Configuration", "Get Configuration",  "Clear Feature",
-    "Get Status",        "Get Max LUN",       "Mass Storage Reset", "LOAD_CONFIG_DATA",
-    "READ_CONFIG_DATA",  "SOFT_RESET",        "BOGUS_READ",         "other request",
-    "setup not 8 bytes", "command packet",    "drive report",       "status request",
+    "bus reset",        "Set Configuration", "Get Descriptor", "Get Configuration",
+    "Clear Feature",    "Get Status",        "Get Max LUN",    "Mass Storage Reset",
+    "LOAD_CONFIG_DATA", "READ_CONFIG_DATA",  "SOFT_RESET",     "BOGUS_READ",
+    "other request",    "setup not 8 bytes", "command packet", "drive report",
+    "status request",
 };
 
 static const char *const phase_names[PHASES] = {"awaiting", "busy", "waiting", "stopped",
@@ -60,7 +62,7 @@ enum {
     ANY = AWAITING | BUSY | WAITING | STOPPED | AFTER_RESET
 };
 
-/* What document 01 allows. Configuration 0 goes with awaiting: all that sets it restores both. A
+/* What the papers allow. Configuration 0 goes with awaiting: all that sets it restores both. A
  * busy bridge never has bulk out halted, or its packet would have been refused, but may have bulk
  * in halted: a reset of either kind leaves halts, and a packet is then accepted. */
 static const struct {
@@ -72,6 +74,11 @@ static const struct {
     {SET_CONFIGURATION, 0, ANY},
     {SET_CONFIGURATION, 5, ANY},
     {SET_CONFIGURATION, 2, ANY},
+    {GET_DESCRIPTOR, 0, ANY},
+    {GET_DESCRIPTOR, 7, ANY},
+    {GET_DESCRIPTOR, 18, ANY},
+    {GET_DESCRIPTOR, 19, ANY},
+    {GET_DESCRIPTOR, 2, ANY},
     {GET_CONFIGURATION, 0, ANY},
     {GET_CONFIGURATION, 5, ANY},
     {GET_CONFIGURATION, 2, ANY},
@@ -150,9 +157,9 @@ struct coverage {
 };
 
 static enum event request_of(const struct record *record) {
-    static const uint8_t pairs[][2] = {{0x00, 0x09}, {0x80, 0x08}, {0x02, 0x01}, {0x82, 0x00},
-                                       {0xA1, 0xFE}, {0x21, 0xFF}, {0x40, 0x01}, {0xC0, 0x02},
-                                       {0x40, 0x03}, {0xC0, 0x01}};
+    static const uint8_t pairs[][2] = {{0x00, 0x09}, {0x80, 0x06}, {0x80, 0x08}, {0x02, 0x01},
+                                       {0x82, 0x00}, {0xA1, 0xFE}, {0x21, 0xFF}, {0x40, 0x01},
+                                       {0xC0, 0x02}, {0x40, 0x03}, {0xC0, 0x01}};
     if (record->length < SETUP_LENGTH)
         return SHORT_SETUP;
     for (unsigned i = 0; i < sizeof pairs / sizeof *pairs; i++)
@@ -192,14 +199,14 @@ static void remember(struct coverage *coverage) {
     const struct bench *bench = &coverage->bench;
     struct bench *before = &coverage->before;
     *before->image = *bench->image;
-    copy(before->memory, bench->memory, bench->sizes.memory);
-    copy(before->reply, bench->reply, bench->sizes.reply);
-    copy(before->operations, bench->operations, bench->sizes.operations * sizeof(uint16_t));
+    copy(before->memory, bench->memory, bench->options.memory);
+    copy(before->reply, bench->reply, bench->options.reply);
+    copy(before->operations, bench->operations, bench->options.operations * sizeof(uint16_t));
 }
 
 static bool only_reads(enum event event) {
-    return event == GET_CONFIGURATION || event == GET_STATUS || event == GET_MAX_LUN ||
-           event == READ_CONFIG_DATA || event == BOGUS_READ;
+    return event == GET_DESCRIPTOR || event == GET_CONFIGURATION || event == GET_STATUS ||
+           event == GET_MAX_LUN || event == READ_CONFIG_DATA || event == BOGUS_READ;
 }
 
 /* 13 and 14 stop the bridge; any other refusal, and a request that only reads, leaves every byte of
@@ -215,28 +222,41 @@ static bool keeps_the_image(const struct coverage *coverage, enum event event, u
            same_from(0, image, before, sizeof *image);
 }
 
-/* What is handed out stands at the front of its room, and a refusal hands out nothing. */
-static bool keeps_the_rooms(const struct coverage *coverage, enum event event, uint32_t outcome) {
+/* A part of the memory is inside it, and every other reply is at the front of its room. */
+static bool stands_inside(const struct bench *bench, enum event event, uint64_t outcome) {
+    const uint8_t *reply = bench_reply(bench, outcome);
+    if (event != GET_DESCRIPTOR || thrandue_answer(outcome) != THRANDUE_DONE)
+        return reply == bench->reply;
+    return reply != bench->reply &&
+           (size_t)(reply - bench->memory) + thrandue_count(outcome) <= bench->options.memory;
+}
+
+/* What is handed out stands at the front of its room, a descriptor in the memory, and a refusal
+ * hands out nothing. */
+static bool keeps_the_rooms(const struct coverage *coverage, enum event event, uint64_t outcome) {
     const struct bench *bench = &coverage->bench;
     const struct bench *before = &coverage->before;
-    uint32_t operations = event == PACKET ? thrandue_count(outcome) : 0;
-    uint32_t bytes = thrandue_count(outcome) - operations;
-    if (thrandue_answer(outcome) != THRANDUE_DONE && thrandue_count(outcome) != 0)
+    uint32_t count = thrandue_count(outcome);
+    uint32_t operations = event == PACKET ? count : 0;
+    uint32_t bytes = event == PACKET || event == GET_DESCRIPTOR ? 0 : count;
+    if (thrandue_answer(outcome) != THRANDUE_DONE && count != 0)
         return false;
-    return same_from(bytes, bench->reply, before->reply, bench->sizes.reply) &&
+    return stands_inside(bench, event, outcome) &&
+           same_from(bytes, bench->reply, before->reply, bench->options.reply) &&
            same_from(operations * sizeof(uint16_t), bench->operations, before->operations,
-                     bench->sizes.operations * sizeof(uint16_t));
+                     bench->options.operations * sizeof(uint16_t));
 }
 
 /* Only an accepted write changes the memory, and nothing changes what is lent for reading: setup,
  * host data, packet. */
 static bool keeps_the_rest(const struct coverage *coverage, const struct record *record,
-                           enum event event, uint32_t outcome) {
+                           enum event event, uint64_t outcome) {
     const struct bench *bench = &coverage->bench;
     uint8_t answer = thrandue_answer(outcome);
     bool writes = event == LOAD_CONFIG_DATA && answer == THRANDUE_DONE;
     return keeps_the_image(coverage, event, answer) && keeps_the_rooms(coverage, event, outcome) &&
-           (writes || same_from(0, bench->memory, coverage->before.memory, bench->sizes.memory)) &&
+           (writes ||
+            same_from(0, bench->memory, coverage->before.memory, bench->options.memory)) &&
            same_from(0, bench_payload(bench, record), record->payload, record->length);
 }
 
@@ -245,7 +265,7 @@ static void count_event(void *context, const struct record *record) {
     enum event event = event_of(record);
     uint8_t phase = thrandue_phase(coverage->bench.image);
     remember(coverage);
-    uint32_t outcome = bench_event(&coverage->bench, record);
+    uint64_t outcome = bench_event(&coverage->bench, record);
     uint8_t answer = thrandue_answer(outcome);
     coverage->counts[event][answer][phase]++;
     if (keeps_the_rest(coverage, record, event, outcome))
@@ -255,9 +275,10 @@ static void count_event(void *context, const struct record *record) {
                 (unsigned)answer, phase_names[phase]);
 }
 
-static int count_session(struct coverage *coverage, const char *name, struct bench_sizes sizes) {
-    bench_open(&coverage->bench, sizes);
-    bench_open(&coverage->before, sizes);
+static int count_session(struct coverage *coverage, const char *name,
+                         struct bench_options options) {
+    bench_open(&coverage->bench, options);
+    bench_open(&coverage->before, options);
     int status = record_each(name, count_event, coverage);
     bench_close(&coverage->bench);
     bench_close(&coverage->before);
@@ -281,7 +302,7 @@ static void judge(struct coverage *coverage, enum event event, uint8_t answer) {
         coverage->faults++;
         command_say("%s, answer %u while %s: met %lu times, %s", event_names[event],
                     (unsigned)answer, phase_names[phase], count,
-                    is_allowed ? "too seldom" : "and document 01 does not allow it");
+                    is_allowed ? "too seldom" : "and the papers do not allow it");
     }
 }
 
@@ -325,7 +346,7 @@ int main(int argc, char **argv) {
     while ((argument = bench_argument(&arguments)) != NULL) {
         if (command_is_option(argument))
             return command_misused("there is no option %s", argument);
-        int status = count_session(&coverage, argument, arguments.sizes);
+        int status = count_session(&coverage, argument, arguments.options);
         if (status != EXIT_FINE)
             return status;
         counted = true;

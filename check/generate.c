@@ -1,4 +1,4 @@
-/* generate: writes a session of records from a seed, steered towards the edges of document 01. */
+/* generate: writes a session of records from a seed, steered towards the edges of the papers. */
 #include "bench.h"
 #include "command.h"
 #include "layout.h"
@@ -15,15 +15,22 @@ static const char help[] =
 enum {
     HOST_DATA_MOST = RECORD_PAYLOAD_MOST - SETUP_LENGTH,
     CONFIGURATION_BYTES = 16,
+    FIRST_STRING = 0x0E,
+    DEVICE_AT = 0x10,
+    QUALIFIER_AT = 0x22,
+    BUS_POWERED_AT = 0x2C,
+    SELF_POWERED_AT = 0x80,
+    WRITE_ALIGNMENT = 8,
     MEMORY_MOST = 2048,
     PAGE = 256,
     REGISTERS_READ = 8,
     TORN_PAYLOAD_MOST = 16
 };
 
-/* The pairs of type and code in document 01's table. */
+/* The pairs of type and code in the table. */
 enum {
     SET_CONFIGURATION = 0x0009,
+    GET_DESCRIPTOR = 0x8006,
     GET_CONFIGURATION = 0x8008,
     CLEAR_FEATURE = 0x0201,
     GET_STATUS = 0x8200,
@@ -108,7 +115,7 @@ static uint32_t configuration_start(struct generator *g) {
 }
 
 static uint32_t fitted_memory(const struct generator *g) {
-    size_t fitted = g->bench.sizes.memory;
+    size_t fitted = g->bench.options.memory;
     return fitted == 0 || fitted > MEMORY_MOST ? MEMORY_MOST : (uint32_t)fitted;
 }
 
@@ -127,6 +134,69 @@ static uint32_t count_from(struct generator *g, uint32_t from, uint32_t size) {
     return chance(g, 40) ? PICK(g, small) : left & 0xFFFF;
 }
 
+/* An index whose string may stand across the end of the memory, or well inside it. */
+static uint8_t string_index(struct generator *g) {
+    uint32_t end = fitted_memory(g) / 2;
+    const uint8_t indexes[] = {
+        0x40, 0x60, 0xFF, (uint8_t)(end - 2), (uint8_t)end, (uint8_t)(end - 1), (uint8_t)(end + 1)};
+    return PICK(g, indexes);
+}
+
+static uint32_t descriptor_at(struct generator *g, uint8_t type) {
+    switch (type) {
+    case DESCRIPTOR_DEVICE:
+        return DEVICE_AT;
+    case DESCRIPTOR_QUALIFIER:
+        return QUALIFIER_AT;
+    case DESCRIPTOR_CONFIGURATION:
+        return chance(g, 50) ? BUS_POWERED_AT : SELF_POWERED_AT;
+    default:
+        return 2U * string_index(g);
+    }
+}
+
+/* The head of a descriptor, its length drawn around the least, and around what is left of the
+ * memory behind it. */
+static void descriptor_head(struct generator *g, uint8_t *head, uint8_t type, uint32_t at) {
+    uint32_t left = fitted_memory(g) - at;
+    const uint32_t lengths[] = {0,      1,        2,    3,        4,        9,     18,
+                                0x0102, left - 1, left, left + 1, left + 1, 0xFFFF};
+    uint32_t length = PICK(g, lengths);
+    head[0] = (uint8_t)length;
+    head[1] = chance(g, 90) ? type : (uint8_t)draw(g);
+    if (type == DESCRIPTOR_CONFIGURATION)
+        record_store(head + 2, 2, length);
+}
+
+/* A write with the head of a descriptor at its end, legal where the memory goes so far. */
+static void load_descriptor(struct generator *g) {
+    static const uint8_t types[] = {DESCRIPTOR_DEVICE,        DESCRIPTOR_CONFIGURATION,
+                                    DESCRIPTOR_CONFIGURATION, DESCRIPTOR_STRING,
+                                    DESCRIPTOR_STRING,        DESCRIPTOR_QUALIFIER};
+    uint8_t type = PICK(g, types);
+    uint32_t at = descriptor_at(g, type);
+    uint32_t before = at % WRITE_ALIGNMENT;
+    uint32_t count = before + (type == DESCRIPTOR_CONFIGURATION ? 4 : 2);
+    setup(g, LOAD_CONFIG_DATA, PLACE_MEMORY, at - before, count);
+    host_data(g, count);
+    descriptor_head(g, g->record.payload + SETUP_LENGTH + before, type, at);
+}
+
+static void load_first_string(struct generator *g) {
+    setup(g, LOAD_CONFIG_DATA, PLACE_CONFIGURATION, FIRST_STRING, 1);
+    host_data(g, 1);
+    g->record.payload[SETUP_LENGTH] = chance(g, 20) ? 0 : string_index(g);
+}
+
+static void get_descriptor(struct generator *g) {
+    static const uint8_t types[] = {1, 1, 2, 2, 2, 3, 3, 3, 6, 6, 0, 4, 5, 7, 0x22, 0x81, 0x83};
+    static const uint16_t lengths[] = {0, 1, 2, 4, 8, 9, 18, 255, 0x0100, 0xFFFF};
+    static const uint16_t languages[] = {0, 0, 0x0409, 0x0100, 0xFFFF};
+    uint32_t type = PICK(g, types);
+    uint32_t index = type == DESCRIPTOR_STRING && chance(g, 70) ? string_index(g) : 0;
+    setup(g, GET_DESCRIPTOR, type << 8 | index, PICK(g, languages), PICK(g, lengths));
+}
+
 static void load_or_read(struct generator *g, uint16_t pair) {
     uint32_t where = place(g);
     uint32_t from, size = CONFIGURATION_BYTES;
@@ -142,8 +212,18 @@ static void load_or_read(struct generator *g, uint16_t pair) {
         host_data(g, count);
 }
 
+static void load(struct generator *g) {
+    uint32_t what = below(g, 100);
+    if (what < 20)
+        load_descriptor(g);
+    else if (what < 25)
+        load_first_string(g);
+    else
+        load_or_read(g, LOAD_CONFIG_DATA);
+}
+
 static void bogus_read(struct generator *g) {
-    uint32_t room = (uint32_t)g->bench.sizes.reply;
+    uint32_t room = (uint32_t)g->bench.options.reply;
     const uint32_t counts[] = {0, 1, 2, 64, room - 1, room, room + 1, 0xFFFF};
     uint32_t fields = draw(g);
     setup(g, BOGUS_READ, fields & 0xFFFF, fields >> 16, PICK(g, counts));
@@ -152,14 +232,19 @@ static void bogus_read(struct generator *g) {
 /* A request of the table; where its fields are not fixed they are drawn around their limits. */
 static void request(struct generator *g) {
     /* Those with the most limits most often. */
-    static const uint16_t pairs[] = {
-        SET_CONFIGURATION,  GET_CONFIGURATION, CLEAR_FEATURE,    GET_STATUS,       GET_MAX_LUN,
-        MASS_STORAGE_RESET, LOAD_CONFIG_DATA,  LOAD_CONFIG_DATA, LOAD_CONFIG_DATA, LOAD_CONFIG_DATA,
-        READ_CONFIG_DATA,   READ_CONFIG_DATA,  SOFT_RESET,       BOGUS_READ};
+    static const uint16_t pairs[] = {SET_CONFIGURATION, GET_DESCRIPTOR,    GET_DESCRIPTOR,
+                                     GET_DESCRIPTOR,    GET_CONFIGURATION, CLEAR_FEATURE,
+                                     GET_STATUS,        GET_MAX_LUN,       MASS_STORAGE_RESET,
+                                     LOAD_CONFIG_DATA,  LOAD_CONFIG_DATA,  LOAD_CONFIG_DATA,
+                                     LOAD_CONFIG_DATA,  READ_CONFIG_DATA,  READ_CONFIG_DATA,
+                                     SOFT_RESET,        BOGUS_READ};
     uint16_t pair = PICK(g, pairs);
     switch (pair) {
     case SET_CONFIGURATION:
         setup(g, pair, chance(g, 80) ? 2 : 0, 0, 0);
+        break;
+    case GET_DESCRIPTOR:
+        get_descriptor(g);
         break;
     case GET_CONFIGURATION:
     case GET_MAX_LUN:
@@ -172,6 +257,8 @@ static void request(struct generator *g) {
         setup(g, pair, 0, pipe_index(g), 2);
         break;
     case LOAD_CONFIG_DATA:
+        load(g);
+        break;
     case READ_CONFIG_DATA:
         load_or_read(g, pair);
         break;
@@ -192,7 +279,7 @@ static void bend_field(struct generator *g) {
 
 /* A type or code one bit away, and pairs that source 003 knows and the paper leaves out. */
 static void bend_pair(struct generator *g) {
-    static const uint16_t pairs[] = {0x4004, 0x4005, 0xC006, 0xC003, 0x0005, 0x8006, 0x010B,
+    static const uint16_t pairs[] = {0x4004, 0x4005, 0xC006, 0xC003, 0x0005, 0x8106, 0x010B,
                                      0x0001, 0x8000, 0x6000, 0x6202, 0x2001, 0x4201, 0x0003};
     uint8_t *payload = g->record.payload;
     uint32_t pair = chance(g, 60) ? ((uint32_t)payload[0] << 8 | payload[1]) ^ 1U << below(g, 16)
@@ -400,7 +487,7 @@ static void compose(struct generator *g) {
 }
 
 static void follow(struct generator *g) {
-    uint32_t outcome = bench_event(&g->bench, &g->record);
+    uint64_t outcome = bench_event(&g->bench, &g->record);
     if (g->record.kind != RECORD_PACKET || thrandue_answer(outcome) != THRANDUE_DONE)
         return;
     const uint8_t *packet = g->record.payload;
@@ -425,9 +512,9 @@ static void tear(struct generator *g) {
     fwrite(bytes, 1, count, stdout);
 }
 
-static int generate(uint64_t seed, uint64_t events, bool torn, struct bench_sizes sizes) {
+static int generate(uint64_t seed, uint64_t events, bool torn, struct bench_options options) {
     struct generator g = {.state = seed};
-    bench_open(&g.bench, sizes);
+    bench_open(&g.bench, options);
     for (uint64_t i = 0; i < events && !ferror(stdout); i++) {
         compose(&g);
         follow(&g);
@@ -455,5 +542,5 @@ int main(int argc, char **argv) {
     }
     if (given != 2)
         return command_misused("a seed and a number of events are needed");
-    return generate(numbers[0], numbers[1], torn, arguments.sizes);
+    return generate(numbers[0], numbers[1], torn, arguments.options);
 }

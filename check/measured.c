@@ -32,10 +32,10 @@ const size_t measured_state_size = sizeof lent.state;
 const size_t measured_memory_size = sizeof lent.memory;
 
 void measured_power_on(void) {
-    BRIDGE(power_on)(&lent.state);
+    BRIDGE(power_on)(&lent.state, false);
 }
 
-uint32_t measured_event(const struct record *record) {
+uint64_t measured_event(const struct record *record) {
     const uint8_t *payload = record->payload;
     size_t setup = record->length < SETUP_LENGTH ? record->length : SETUP_LENGTH;
     switch (record->kind) {

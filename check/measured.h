@@ -17,7 +17,7 @@ extern const size_t measured_state_size;
 extern const size_t measured_memory_size;
 
 void measured_power_on(void);
-uint32_t measured_event(const struct record *record);
+uint64_t measured_event(const struct record *record);
 
 /* Calls plain_copy, from the memory to the reply. */
 void measured_copies(size_t times, size_t bytes);

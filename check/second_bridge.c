@@ -1,7 +1,6 @@
-/* The second bridge: document 01 in plain C, freestanding, refusing in the paper's order. */
+/* The second bridge: the paper in plain C, freestanding, refusing in the paper's order. */
 #include "second_bridge.h"
 
-#include <stdbool.h>
 #include <string.h>
 
 enum {
@@ -31,6 +30,7 @@ enum {
     MASS_STORAGE_RESET = 0x21FF,
     LOAD_CONFIG_DATA = 0x4001,
     SOFT_RESET = 0x4003,
+    GET_DESCRIPTOR = 0x8006,
     GET_CONFIGURATION = 0x8008,
     GET_STATUS = 0x8200,
     GET_MAX_LUN = 0xA1FE,
@@ -43,6 +43,24 @@ enum {
     PLACE_MEMORY = 0x0002,
     ENDPOINT_OUT = 0x01,
     ENDPOINT_IN = 0x82
+};
+
+/* Descriptor types: USB 2.0, table 9-5. */
+enum {
+    TYPE_DEVICE = 1,
+    TYPE_CONFIGURATION = 2,
+    TYPE_STRING = 3,
+    TYPE_QUALIFIER = 6
+};
+
+/* Where descriptors start in the memory, and the configuration byte that is string index 0's. */
+enum {
+    DEVICE_AT = 0x10,
+    QUALIFIER_AT = 0x22,
+    BUS_POWERED_CONFIGURATION_AT = 0x2C,
+    CONFIGURATION_AT = 0x80,
+    NOWHERE = 0xFFFF,
+    FIRST_STRING_ADDRESS = 0x0E
 };
 
 enum {
@@ -307,12 +325,55 @@ static uint32_t bogus_read(const struct request *request) {
     return handed_out(request->length);
 }
 
-static uint32_t serve(struct second_bridge *bridge, unsigned pair, const struct request *request) {
+static uint32_t descriptor_start(const struct second_bridge *bridge, uint8_t type, uint8_t index) {
+    if (type == TYPE_STRING)
+        return 2U * (index == 0 ? bridge->bytes[FIRST_STRING_ADDRESS] : index);
+    if (index != 0)
+        return NOWHERE;
+    switch (type) {
+    case TYPE_DEVICE:
+        return DEVICE_AT;
+    case TYPE_QUALIFIER:
+        return QUALIFIER_AT;
+    case TYPE_CONFIGURATION:
+        return bridge->bus_powered ? BUS_POWERED_CONFIGURATION_AT : CONFIGURATION_AT;
+    default:
+        return NOWHERE;
+    }
+}
+
+/* The reply stays where it is, in the memory; so there is no room to run short of. */
+static uint64_t get_descriptor(const struct second_bridge *bridge, const struct request *request) {
+    uint32_t size = request->memory_size;
+    if (size == 0)
+        return SECOND_NO_MEMORY;
+    uint8_t type = (uint8_t)(request->value >> 8);
+    uint32_t start = descriptor_start(bridge, type, (uint8_t)request->value);
+    if (start == NOWHERE)
+        return SECOND_NO_DESCRIPTOR;
+    uint32_t head = type == TYPE_CONFIGURATION ? 4 : 2;
+    if (start + head > size)
+        return SECOND_DESCRIPTOR_CUT;
+    const uint8_t *descriptor = request->memory + start;
+    uint32_t length = type == TYPE_CONFIGURATION ? load16(descriptor + 2) : descriptor[0];
+    if (descriptor[1] != type || length < head)
+        return SECOND_NO_DESCRIPTOR;
+    if (start + length > size)
+        return SECOND_DESCRIPTOR_CUT;
+    if (request->host_len != 0)
+        return SECOND_HOST_DATA;
+    uint64_t in_memory = (uint64_t)1 << 48 | (uint64_t)start << 32;
+    return in_memory | handed_out(length < request->length ? length : request->length);
+}
+
+static uint64_t serve(struct second_bridge *bridge, unsigned pair, const struct request *request) {
     switch (pair) {
     case SET_CONFIGURATION:
         return set_configuration(bridge, request);
     case GET_CONFIGURATION:
         return get_configuration(bridge, request);
+    case GET_DESCRIPTOR:
+        return get_descriptor(bridge, request);
     case CLEAR_FEATURE:
         return clear_feature(bridge, request);
     case GET_STATUS:
@@ -334,7 +395,7 @@ static uint32_t serve(struct second_bridge *bridge, unsigned pair, const struct 
     }
 }
 
-uint32_t second_control(struct second_bridge *bridge, const uint8_t *setup, size_t setup_len,
+uint64_t second_control(struct second_bridge *bridge, const uint8_t *setup, size_t setup_len,
                         const uint8_t *host, size_t host_len, uint8_t *memory, size_t memory_len,
                         uint8_t *reply, size_t reply_len) {
     if (setup_len != SETUP_LENGTH)
@@ -520,8 +581,9 @@ uint32_t second_status(struct second_bridge *bridge, uint8_t *reply, size_t repl
     return handed_out(STATUS_LENGTH);
 }
 
-uint32_t second_power_on(struct second_bridge *bridge) {
+uint32_t second_power_on(struct second_bridge *bridge, bool bus_powered) {
     memset(bridge, 0, sizeof *bridge);
+    bridge->bus_powered = bus_powered;
     bridge->bytes[SIGNATURE_ADDRESS] = SIGNATURE_AT_POWER_ON;
     return SECOND_DONE;
 }

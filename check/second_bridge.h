@@ -1,11 +1,12 @@
-/* The second bridge: document 01 read by hand into plain C, the other side of every comparison. */
+/* The second bridge: the paper read by hand into plain C, the other side of every comparison. */
 #ifndef SECOND_BRIDGE_H
 #define SECOND_BRIDGE_H
 
+#include <stdbool.h>
 #include <stddef.h>
 #include <stdint.h>
 
-/* The answer numbers of document 01. */
+/* The answer numbers. */
 enum {
     SECOND_DONE = 0,
     SECOND_SETUP_LENGTH = 1,
@@ -23,7 +24,9 @@ enum {
     SECOND_PACKET_NOT_MEANINGFUL = 14,
     SECOND_OPERATION_ROOM = 15,
     SECOND_WRONG_PHASE = 16,
-    SECOND_REPORT_MALFORMED = 17
+    SECOND_REPORT_MALFORMED = 17,
+    SECOND_NO_DESCRIPTOR = 18,
+    SECOND_DESCRIPTOR_CUT = 19
 };
 
 /* What second_phase hands out. */
@@ -54,22 +57,17 @@ struct second_bridge {
     uint8_t phase;
     uint8_t halts;
     uint8_t configuration;
+    uint8_t bus_powered; /* fixed at power-on */
     uint8_t bytes[SECOND_CONFIGURATION_BYTES];
 };
 
 /* Every event's outcome: the answer in the low byte, above it the count of reply bytes or
- * operations handed out. A slice of length 0 may be NULL. */
-static inline uint8_t second_answer(uint32_t outcome) {
-    return (uint8_t)outcome;
-}
-
-static inline uint32_t second_count(uint32_t outcome) {
-    return outcome >> 8;
-}
-
-uint32_t second_power_on(struct second_bridge *bridge);
+ * operations handed out. A control request's has 32 bits more: bit 48 is set where the reply is a
+ * part of the lent memory, and bits 32 to 47 are then its start there. A slice of length 0 may be
+ * NULL. */
+uint32_t second_power_on(struct second_bridge *bridge, bool bus_powered);
 uint32_t second_bus_reset(struct second_bridge *bridge);
-uint32_t second_control(struct second_bridge *bridge, const uint8_t *setup, size_t setup_len,
+uint64_t second_control(struct second_bridge *bridge, const uint8_t *setup, size_t setup_len,
                         const uint8_t *host, size_t host_len, uint8_t *memory, size_t memory_len,
                         uint8_t *reply, size_t reply_len);
 uint32_t second_packet(struct second_bridge *bridge, const uint8_t *packet, size_t packet_len,

@@ -15,14 +15,14 @@ static struct second_bridge load(const thrandue_image *image) {
     return bridge;
 }
 
-static uint32_t store(thrandue_image *image, const struct second_bridge *bridge, uint32_t outcome) {
+static uint64_t store(thrandue_image *image, const struct second_bridge *bridge, uint64_t outcome) {
     memcpy(image, bridge, sizeof *image);
     return outcome;
 }
 
-uint32_t thrandue_power_on(thrandue_image *image) {
+uint32_t thrandue_power_on(thrandue_image *image, bool bus_powered) {
     struct second_bridge bridge = load(image);
-    return store(image, &bridge, second_power_on(&bridge));
+    return store(image, &bridge, second_power_on(&bridge, bus_powered));
 }
 
 uint32_t thrandue_bus_reset(thrandue_image *image) {
@@ -30,7 +30,7 @@ uint32_t thrandue_bus_reset(thrandue_image *image) {
     return store(image, &bridge, second_bus_reset(&bridge));
 }
 
-uint32_t thrandue_control(thrandue_image *image, const uint8_t *setup, size_t setup_len,
+uint64_t thrandue_control(thrandue_image *image, const uint8_t *setup, size_t setup_len,
                           const uint8_t *host, size_t host_len, uint8_t *memory, size_t memory_len,
                           uint8_t *reply, size_t reply_len) {
     struct second_bridge bridge = load(image);
