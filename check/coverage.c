@@ -1,4 +1,4 @@
-/* coverage: counts the answers that sessions meet, against those that documents 01 and 02 allow. */
+/* coverage: counts the answers that sessions meet, against those that the paper allows. */
 #include "bench.h"
 #include "command.h"
 #include "layout.h"
@@ -9,7 +9,7 @@
 static const char help[] =
     "[OPTION..] FILE [[OPTION..] FILE..]\n"
     "Replays sessions and prints how often each event, the control\n"
-    "requests one by one, met each answer in each phase before it; - where the papers allow\n"
+    "requests one by one, met each answer in each phase before it; - where the paper allows\n"
     "none. The options hold for the files after them:\n" BENCH_OPTIONS_HELP
     "Status 0: all is allowed, and met 100 times or more; 1: it is not, an event changed what it\n"
     "must leave alone, or a session is torn; 2: bad usage, or a file that cannot be read.\n";
@@ -62,7 +62,7 @@ enum {
     ANY = AWAITING | BUSY | WAITING | STOPPED | AFTER_RESET
 };
 
-/* What the papers allow. Configuration 0 goes with awaiting: all that sets it restores both. A
+/* What the paper allows. Configuration 0 goes with awaiting: all that sets it restores both. A
  * busy bridge never has bulk out halted, or its packet would have been refused, but may have bulk
  * in halted: a reset of either kind leaves halts, and a packet is then accepted. */
 static const struct {
@@ -302,7 +302,7 @@ static void judge(struct coverage *coverage, enum event event, uint8_t answer) {
         coverage->faults++;
         command_say("%s, answer %u while %s: met %lu times, %s", event_names[event],
                     (unsigned)answer, phase_names[phase], count,
-                    is_allowed ? "too seldom" : "and the papers do not allow it");
+                    is_allowed ? "too seldom" : "and the paper does not allow it");
     }
 }
 

@@ -1,4 +1,4 @@
-/* generate: writes a session of records from a seed, steered towards the edges of the papers. */
+/* generate: writes a session of records from a seed, steered towards the edges of the paper. */
 #include "bench.h"
 #include "command.h"
 #include "layout.h"

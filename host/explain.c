@@ -349,7 +349,7 @@ void explain_event(const struct bench *bench, const struct record *record, uint6
     const char *meaning = called(answers, answer);
     fputs("    ", stdout);
     explain_arrival(record);
-    printf(" | %u %s", answer, meaning == NULL ? "not an answer of the papers" : meaning);
+    printf(" | %u %s", answer, meaning == NULL ? "not an answer of the paper" : meaning);
     if (answer == THRANDUE_DONE)
         explain_handed_out(bench, record->kind, outcome);
     printf(" | configuration %u", (unsigned)thrandue_configuration(bench->image));

@@ -21,7 +21,7 @@ use Rattle.descriptors.specs.Looking.{looked}
 use Rattle.requests.specs.declared.Judgement.{Judgement}
 use Rattle.requests.specs.declared.Judgement.the-variants.{Refused}
 use Rattle.requests.specs.declared.Judgement.the-variants.{Found as Finds}
-use Rattle.requests.specs.Judgements.{foundBy}
+use Rattle.requests.specs.Judgements.{foundBy, describedChecks}
 
 module _ (seen : Seen) (memory : List ℕ) (s : Setup) (host : ℕ) where
   abbrev checks : List Check
@@ -37,7 +37,7 @@ module _ (seen : Seen) (memory : List ℕ) (s : Setup) (host : ℕ) where
   end = 2 if not (eqb host 0) ∷ []
 
   abbrev verdict : Judgement
-  verdict = foundBy seen memory s (first (7 if eqb (sizeOf memory) 0 ∷ checks ++ end))
+  verdict = foundBy seen memory s (first (describedChecks seen memory s host))
 
   pub none-fitted : sizeOf memory ≡ 0 → Refused 7 ≡ verdict
   none-fitted h = rw (eq-eqb (sizeOf memory) 0 h)

@@ -10,16 +10,14 @@ use borrow.Author.Tests.{eqb-true, eqb-false, ne-eqb, eq-eqb, ltb-true, le-ltb}
 use Rattle.rules.specs.declared.Request.{Request}
 use Rattle.rules.specs.declared.Seen.{Seen}
 use Rattle.rules.specs.declared.Setup.{Setup}
-use Rattle.rules.specs.Words.{Check, _if_, first}
-use Rattle.rules.specs.Held.{sizeOf, fitted}
-use Rattle.rules.specs.Descriptors.{descriptorChecks}
+use Rattle.rules.specs.Words.{Check, first}
 use Rattle.rules.specs.Requests.{Named, Unknown, Known, Describes, Row, table, lookup, setupOf, requestOf, needsConfiguration}
 use Rattle.rules.specs.Answers.{namedChecks, requestChecks, requestAnswer}
 use Rattle.rules.proofs.Checks.{numbered, first-append}
 use Rattle.rules.specs.Step.{done}
 use Rattle.requests.specs.declared.Judgement.{Judgement}
 use Rattle.requests.specs.declared.Judgement.the-variants.{Refused}
-use Rattle.requests.specs.Judgements.{judged, judgedAs, judgedBy, foundBy}
+use Rattle.requests.specs.Judgements.{judged, judgedAs, judgedBy, foundBy, describedChecks}
 
 -- ---- the table
 
@@ -96,9 +94,7 @@ module _ (seen : Seen) (memory : List ℕ) (s : Setup) (host room : ℕ) where
 
   -- of Get Descriptor, by its type
   pub judged-found : {j : Judgement} → requestOf s ≡ Describes → s .kind ≡ 0x80
-      → j ≡ foundBy seen memory s
-      (first (7 if eqb (sizeOf memory) 0 ∷ descriptorChecks true (seen .dock) (seen .«first_string») (fitted memory) (s .value) ++ 2 if not (eqb host 0) ∷ []))
-      → j ≡ judgement (requestOf s)
+      → j ≡ foundBy seen memory s (first (describedChecks seen memory s host)) → j ≡ judgement (requestOf s)
   judged-found e k h = judged-as e (rw (k, le-ltb room 0 (omega arith)) h)
 
 -- ---- checks in two parts: an answer is that of the first part, and where none of it applies the second decides

@@ -1,13 +1,15 @@
 -- What a judgement says: the number of a refusal; the request that is granted, with its fields; or where a descriptor's reply stands and how long it is.
 use Prim.Native.Nat.{ℕ}
-use mathlib.Core.Bool.{cond}
-use mathlib.Core.List.{List}
+use mathlib.Core.Bool.{true, cond, not}
+use mathlib.Core.List.{List, [], _∷_, _++_}
 use lib.ListN.{length}
+use lib.Dec.{eqb}
 use Rattle.rules.specs.declared.Request.{Request}
 use Rattle.rules.specs.declared.Seen.{Seen}
 use Rattle.rules.specs.declared.Setup.{Setup}
-use Rattle.rules.specs.Held.{fitted}
-use Rattle.rules.specs.Descriptors.{placeIn, told}
+use Rattle.rules.specs.Words.{Check, _if_}
+use Rattle.rules.specs.Held.{sizeOf, fitted}
+use Rattle.rules.specs.Descriptors.{placeIn, descriptorChecks, told}
 use Rattle.rules.specs.Requests.{Named, Unknown, Known, Describes, requestOf}
 use Rattle.rules.specs.Step.{done}
 use Rattle.requests.specs.declared.Judgement.{Judgement}
@@ -15,6 +17,13 @@ use Rattle.requests.specs.declared.Judgement.the-variants.{Refused, Gran
 
 abbrev pub judgedBy : Request → Setup → ℕ → Judgement
 judgedBy r s answer = cond (done answer) (Granted r s) (Refused answer)
+
+-- the checks of a request for a descriptor: 7, those of the descriptor, and 2
+abbrev pub describedChecks : Seen → List ℕ → Setup → ℕ → List Check
+describedChecks seen memory s host =
+    7 if eqb (sizeOf memory) 0 ∷
+    descriptorChecks true (seen .dock) (seen .«first_string») (fitted memory) (s .value)
+    ++ 2 if not (eqb host 0) ∷ []
 
 abbrev pub foundBy : Seen → List ℕ → Setup → ℕ → Judgement
 foundBy seen memory s answer =

@@ -1,15 +1,14 @@
 // Control requests, judged: the fields of a setup, the request that they make, and the answer that the checks give.
 ghost use mathlib.Core.Path.{_≡_};
 ghost use mathlib.Core.Bool.{true, false, cond, not, _&&_, _||_};
-ghost use mathlib.Core.List.{[], _∷_, _++_};
+ghost use mathlib.Core.List.{_∷_, _++_};
 ghost use Prim.Native.Nat.{_+_, min};
 ghost use lib.Dec.{eqb, leb, ltb};
 ghost use lib.ListN.{length};
-ghost use Rattle.requests.specs.Judgements.{judged, judgedBy, foundBy};
+ghost use Rattle.requests.specs.Judgements.{judged, judgedBy, foundBy, describedChecks};
 ghost use Rattle.rules.specs.Words.{_if_, first};
 ghost use Rattle.rules.specs.Requests.{setupOf, requestOf, needsConfiguration, onePage};
-ghost use Rattle.rules.specs.Held.{sizeFor, sizeOf, fitted as fittedOf, bulkOut, bulkIn};
-ghost use Rattle.rules.specs.Descriptors.{descriptorChecks};
+ghost use Rattle.rules.specs.Held.{sizeFor, bulkOut, bulkIn};
 ghost use Rattle.rules.specs.Answers.{programChecks, placeChecks, dataChecks, namedChecks, requestAnswer};
 use descriptors::Found;
 use rules::Request;
@@ -231,7 +230,7 @@ fn shorter(a: u16, b: u16) -> u16
 
 // Get Descriptor: checks 7, 18, 19, 18, 19 and 2. What it tells needs no room, so that 3 is not given.
 fn described(seen: Seen, memory: &[u8], s: Setup, host: usize) -> Judgement
-    ensures { λ j. ⌜ j ≡ foundBy seen (now (memory .entry)) s (first (7 if eqb (sizeOf (now (memory .entry))) 0 ∷ descriptorChecks true (seen .dock) (seen .«first_string») (fittedOf (now (memory .entry))) (s .value) ++ 2 if not (eqb host 0) ∷ [])) ⌝ }
+    ensures { λ j. ⌜ j ≡ foundBy seen (now (memory .entry)) s (first (describedChecks seen (now (memory .entry)) s host)) ⌝ }
 {
     let size = size_of(memory.len());
     if size == 0 {

@@ -1,4 +1,4 @@
-// The answer numbers of documents 01 and 02.
+// The answer numbers of the paper.
 pub const DONE: u8 = 0;
 
 pub const SETUP_LENGTH: u8 = 1;

@@ -1,4 +1,4 @@
-// The types of documents 01 and 02: what the bridge holds, what an event changes of it, the requests of its table and what they are judged by, and the
+// The types of the paper: what the bridge holds, what an event changes of it, the requests of its table and what they are judged by, and the
 // two kinds of packet with their constants.
 ghost use mathlib.Core.Path.{_≡_};
 ghost use Rattle.rules.specs.Held.{powerOn, powerOnBytes};

@@ -12,20 +12,18 @@ use Rattle.rules.specs.declared.Stands.the-variants.{InRoom, InMemory}
 use Rattle.rules.specs.declared.addresses.Address.{Address}
 use Rattle.rules.specs.Held.{world}
 use Rattle.rules.specs.Step.{Event}
-use Rattle.rules.specs.Promise.{Left, leftAt, leaves, served}
+use Rattle.rules.specs.Promise.{leftAt, leaves, served}
 use Rattle.outcomes.specs.declared.Outcome.{Outcome}
 use Rattle.outcomes.specs.Outcomes.{leftBy}
 use Rattle.image.specs.Image.{bytesOf, decode, worldOf, put}
-use Rattle.thrandue.specs.Calls.{called, returns, calls}
+use Rattle.thrandue.specs.Calls.{called, returns, inImage, calls}
 
 module _ (image memory : List ℕ) (event : ℕ → Event) (room : List ℕ) (o : Outcome) {memory' room' : List ℕ} where
   -- with the configuration bytes written
   pub written : {bytes now : List ℕ} → leftBy o bytes memory' room' ≡ leaves (worldOf image memory) event room → now ≡ bytes ++ drop 16 image
       → {returned : ℕ} {image' : List ℕ} → (returned ≡ returns (o .answer) (o .count) InRoom) × (image' ≡ put (o .change) now)
       → called returned image' memory' room' ≡ calls image memory event room
-  written l e r =
-      rw (r .0, r .1, e)
-      (ap (λ (x : Left). called (returns (x .answer) (x .count) (x .stands)) (put (x .change) (x .bytes ++ drop 16 image)) (x .memory) (x .room)) l)
+  written l e r = rw (r .0, r .1, e) (ap (inImage image) l)
 
   -- .. or as they were
   pub unwritten : leftBy o (bytesOf image) memory' room' ≡ leaves (worldOf image memory) event room
@@ -46,9 +44,7 @@ pub found-there : (image memory : List ℕ) (event : ℕ → Event) (room : List
     → leftAt (InMemory at) 0 n Nothing (bytesOf image) memory room ≡ leaves (worldOf image memory) event room
     → {returned : ℕ} → returned ≡ returns 0 n (InMemory at) → called returned image memory room ≡ calls image memory event room
 found-there image memory event room at n l r =
-    rw r
-    (ap (λ (i : List ℕ). called (returns 0 n (InMemory at)) i memory room) (sym (take-append-drop 16 image))
-    ∙ ap (λ (x : Left). called (returns (x .answer) (x .count) (x .stands)) (put (x .change) (x .bytes ++ drop 16 image)) (x .memory) (x .room)) l)
+    rw r (ap (λ (i : List ℕ). called (returns 0 n (InMemory at)) i memory room) (sym (take-append-drop 16 image)) ∙ ap (inImage image) l)
 
 -- the configuration bytes are sixteen
 pub sixteen : (image : List ℕ) → 16 ≤ length image → length (bytesOf image) ≡ 16

@@ -29,12 +29,14 @@ abbrev pub returns : ℕ → ℕ → Stands → ℕ
 returns answer count InRoom = answer + 256 * count
 returns answer count (InMemory at) = answer + 256 * count + 0x100000000 * (0x10000 + startOf at)
 
--- what a call makes of an image, a memory, an event and the room that is lent to it: the image with the configuration bytes written and the change
--- made, so that a refused call, which writes and changes nothing, leaves it byte for byte
+-- what an event leaves, in an image: the configuration bytes are written and the change is made, so that a refused call, which writes and changes
+-- nothing, leaves it byte for byte
+abbrev pub inImage : List ℕ → Left → Called
+inImage image l = called (returns (l .answer) (l .count) (l .stands)) (put (l .change) (l .bytes ++ drop 16 image)) (l .memory) (l .room)
+
+-- what a call makes of an image, a memory, an event and the room that is lent to it
 abbrev pub calls : List ℕ → List ℕ → (ℕ → Event) → List ℕ → Called
-calls image memory event room =
-    let l : Left = leaves (worldOf image memory) event room in
-    called (returns (l .answer) (l .count) (l .stands)) (put (l .change) (l .bytes ++ drop 16 image)) (l .memory) (l .room)
+calls image memory event room = inImage image (leaves (worldOf image memory) event room)
 
 -- a call that is lent no memory: with every memory, and it leaves it as it is
 abbrev pub CallTold : List ℕ → (ℕ → Event) → List ℕ → ℕ → List ℕ → List ℕ → Type 0

@@ -15,14 +15,13 @@ use Rattle.rules.specs.declared.addresses.StringIndex.{StringIndex}
 use Rattle.rules.specs.Words.{Check, byte, word}
 use Rattle.rules.specs.Words.{first as foremost}
 use Rattle.rules.specs.Held.{World, sizeOf, fitted}
-use Rattle.rules.specs.Descriptors.{addressOf, numberOf, answered, placeOf, lengthAt, findChecks, placeIn, descriptorChecks, lengthIn, told}
-use Rattle.rules.specs.Descriptors.{firstString as named}
+use Rattle.rules.specs.Descriptors.{addressOf, numberOf, firstString, answered, placeOf, lengthAt, findChecks, placeIn, descriptorChecks, lengthIn, told}
 use Rattle.rules.specs.Descriptors.{index as numbered, at}
 use Rattle.rules.specs.Requests.{Named, Unknown, Known, Describes, setupOf, requestOf, describes, replyTo, standing, memoryAfter}
 use Rattle.rules.specs.Answers.{seenOf, dataChecks, requestAnswer}
 use Rattle.rules.specs.Step.{BusReset, Control, Packet, Report, StatusRequest, Outcome, done, given, step, rules}
 use Rattle.rules.specs.Demands.Requests.{wire}
-use Rattle.rules.specs.Demands.Descriptors.{wanting, part, Place, device, qualifier, busPowered, selfPowered, string, firstString, head, says, Headed, Search, noMemory, noPlace, headCut, noHead, cut, there, DescriptorIsSought, DescriptorIsTold, FirstStringIsNamed, NothingElseEnters, wants, OnlyDescriptorsStand, WhatStandsIsThere}
+use Rattle.rules.specs.Demands.Descriptors.{wanting, part, Place, device, qualifier, busPowered, selfPowered, string, stringZero, head, says, Headed, Search, noMemory, noPlace, headCut, noHead, cut, there, DescriptorIsSought, DescriptorIsTold, FirstStringIsNamed, NothingElseEnters, wants, OnlyDescriptorsStand, WhatStandsIsThere}
 use Rattle.rules.proofs.Checks.{first-append, passed, request-has, request-passed}
 use Rattle.rules.proofs.Demands.Coherence.{asking-changes-nothing}
 use Rattle.rules.proofs.Demands.Requests.{whole}
@@ -36,10 +35,10 @@ answerBy dock first memory value host =
     cond (eqb (sizeOf memory) 0) 7 (cond (eqb f 0) (cond (not (eqb host 0)) 2 0) f)
 
 sought : (w : World) (value language n host room : ℕ)
-    → requestAnswer (seenOf w) (w .memory) (wire 0x80 0x06 value language n) host room ≡ answerBy (w .bridge .dock) (named (w .bytes)) (w .memory) value host
+    → requestAnswer (seenOf w) (w .memory) (wire 0x80 0x06 value language n) host room ≡ answerBy (w .bridge .dock) (firstString (w .bytes)) (w .memory) value host
 unfolding requestOf requestAnswer
 sought w value language n host room =
-    let checks : List Check = descriptorChecks true (w .bridge .dock) (named (w .bytes)) (fitted (w .memory)) value in
+    let checks : List Check = descriptorChecks true (w .bridge .dock) (firstString (w .bytes)) (fitted (w .memory)) value in
     let end : List Check = dataChecks true (setupOf (wire 0x80 0x06 value language n)) host room in
     simp and-false
     (rw whole (ap (λ (x : ℕ). cond (eqb (sizeOf (w .memory)) 0) 7 x) (first-append checks end refl ∙ rw (le-ltb room 0 (omega arith)))))
@@ -49,7 +48,7 @@ sought w value language n host room =
 module _ (w : World) where
   -- the place that the rules give a type and an index
   abbrev start : ℕ → ℕ → ℕ
-  start type index = numberOf (placeOf (w .bridge .dock) (named (w .bytes)) type index)
+  start type index = numberOf (placeOf (w .bridge .dock) (firstString (w .bytes)) type index)
 
   string-placed : (index : ℕ) → Place w 3 index (start 3 index)
   unfolding placeOf
@@ -58,8 +57,8 @@ module _ (w : World) where
       twice : (k : ℕ) → k + k ≡ 2 * k
       twice k = omega arith
 
-      go : (z : Bool) → eqb index 0 ≡ z → Place w 3 index (numberOf (addressOf (cond z (named (w .bytes)) (numbered index))))
-      go true e = rw (eqb-true index 0 e) (subst (λ (k : ℕ). Place w 3 0 k) (twice (byte 0x0E (w .bytes))) firstString)
+      go : (z : Bool) → eqb index 0 ≡ z → Place w 3 index (numberOf (addressOf (cond z (firstString (w .bytes)) (numbered index))))
+      go true e = rw (eqb-true index 0 e) (subst (λ (k : ℕ). Place w 3 0 k) (twice (byte 0x0E (w .bytes))) stringZero)
       go false e =
           let some = eqb-false index 0 e in
           subst (λ (k : ℕ). Place w 3 index k) (twice index) (string index (omega arith))
@@ -93,7 +92,7 @@ module _ (w : World) where
   nowhere type index h k (busPowered e) = true≢false h
   nowhere type index h k (selfPowered e) = true≢false h
   nowhere type index h k (string i e) = true≢false h
-  nowhere type index h k firstString = true≢false h
+  nowhere type index h k stringZero = true≢false h
 
 -- ---- what the search comes to
 
@@ -216,7 +215,7 @@ module _ (w : World) (type index language n : ℕ) (small : index < 256) (host :
   unfolding step requestOf
   reply-by = rw (whole (256 * type + index), whole n, high type index small, low type index small)
 
-  stands-by : outcome .stands ≡ cond (done (outcome .answer)) (InMemory (placeOf (w .bridge .dock) (named (w .bytes)) type index)) InRoom
+  stands-by : outcome .stands ≡ cond (done (outcome .answer)) (InMemory (placeOf (w .bridge .dock) (firstString (w .bytes)) type index)) InRoom
   unfolding step requestOf
   stands-by = rw (whole (256 * type + index), high type index small, low type index small)
 
@@ -303,10 +302,10 @@ what-stands-is-there w (Control setup host room) place h = go (done n) refl (req
     n = requestAnswer (seenOf w) (w .memory) setup (length host) room
 
     k : ℕ
-    k = numberOf (placeIn (w .bridge .dock) (named (w .bytes)) (s .value))
+    k = numberOf (placeIn (w .bridge .dock) (firstString (w .bytes)) (s .value))
 
     long : ℕ
-    long = lengthIn (w .bridge .dock) (named (w .bytes)) (fitted (w .memory)) (s .value)
+    long = lengthIn (w .bridge .dock) (firstString (w .bytes)) (fitted (w .memory)) (s .value)
 
     go : (t : Bool) → done n ≡ t → (q : Named) → requestOf s ≡ q → cond t (standing q s w) InRoom ≡ InMemory (at place)
         → There place (cond t (replyTo q s w) []) (cond t (memoryAfter q s host (w .memory)) (w .memory))

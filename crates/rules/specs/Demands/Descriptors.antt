@@ -28,7 +28,7 @@ pub data Place (w : World) : ℕ → ℕ → ℕ → Type 0 where
   busPowered : w .bridge .dock .«bus_powered» ≡ true → Place w 2 0 0x2C
   selfPowered : w .bridge .dock .«bus_powered» ≡ false → Place w 2 0 0x80
   string : (index : ℕ) → 0 < index → Place w 3 index (index + index)
-  firstString : Place w 3 0 (byte 0x0E (w .bytes) + byte 0x0E (w .bytes))
+  stringZero : Place w 3 0 (byte 0x0E (w .bytes) + byte 0x0E (w .bytes))
 
 -- how long a head is, and how long the descriptor says to be in it: bLength, or wTotalLength (USB 2.0, tables 9-8 to 9-16)
 abbrev pub head : ℕ → ℕ
