@@ -1,9 +1,12 @@
-// The status request: the packet that waits, made as an array and copied into the lent room.
+// The status request: the packet that waits, written into the lent room.
 ghost use mathlib.Core.Path.{_≡_};
+ghost use Prim.Native.Nat.{_+_, _≤_};
+ghost use lib.ListN.{length};
+ghost use lib.Seq.{sets};
 ghost use Rattle.statuses.specs.Waiting.{Waits};
 ghost use Rattle.outcomes.specs.Outcomes.{Answers};
 ghost use Rattle.rules.specs.Step.{StatusRequest};
-ghost use Rattle.rules.specs.Packets.{statusPacket};
+ghost use Rattle.rules.specs.Words.{bytes4};
 use outcomes::Outcome;
 use outcomes::done;
 use outcomes::refused;
@@ -13,26 +16,28 @@ use rules::Phase;
 use rules::StatusPacket;
 use rules::answers;
 
-fn packet_of(p: StatusPacket) -> [u8; StatusPacket::LENGTH]
-    ensures { λ r. ⌜ r ≡ statusPacket (p .tag) (p .residue) (p .status) ⌝ }
+// The four bytes of a number from `at` on, low byte first.
+fn put_long(room: &mut [u8], at: usize, n: u32)
+    requires { ⌜ at + 4 ≤ length (now room) ⌝ }
+    ensures { λ u. ⌜ now (room .exit) ≡ sets (now (room .entry)) at (bytes4 n) ⌝ }
 {
-    let mut packet = [0u8; StatusPacket::LENGTH];
-    lent::copy(&mut packet, 0, &lent::bytes_of(StatusPacket::SIGNATURE));
-    lent::copy(&mut packet, 4, &lent::bytes_of(p.tag));
-    lent::copy(&mut packet, 8, &lent::bytes_of(p.residue));
-    packet[12] = p.status;
-    packet
+    room[at] = (n % 256) as u8;
+    room[at + 1] = (n / 256 % 256) as u8;
+    room[at + 2] = (n / 65536 % 256) as u8;
+    room[at + 3] = (n / 16777216 % 256) as u8;
 }
 
-// A status packet that waits on a pipe that is not halted.
+// A status packet that waits on a pipe that is not halted, written at the front of the room.
 fn handed_out(p: StatusPacket, reply: &mut [u8]) -> Outcome
     ensures { λ r. ⌜ ((b : Bridge) → Waits b p → Answers b StatusRequest (now (reply .entry)) r (now (reply .exit))) ⌝ }
 {
     if reply.len() < StatusPacket::LENGTH {
         return refused(answers::REPLY_ROOM);
     }
-    let packet = packet_of(p);
-    lent::copy(reply, 0, &packet);
+    put_long(reply, 0, StatusPacket::SIGNATURE);
+    put_long(reply, 4, p.tag);
+    put_long(reply, 8, p.residue);
+    reply[12] = p.status;
     done(StatusPacket::LENGTH as u16, Change::Awaits)
 }
 
