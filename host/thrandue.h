@@ -14,9 +14,9 @@ extern "C" {
 /* The state of a bridge, as an image that the caller keeps and hands over by its address.
  * thrandue_power_on makes it, and only the calls below write it. Any bytes stand for some state,
  * and two images of one state may differ: what a finished command held stays in them until the
- * next. */
+ * next, and so do the bytes of a packet that was judged or dropped. */
 typedef struct thrandue_image {
-    uint8_t bytes[30];
+    uint8_t bytes[62];
 } thrandue_image;
 
 /* The caller answers for this: pointers are valid for their type or their length, and do not
@@ -27,7 +27,8 @@ typedef struct thrandue_image {
 /* Every event returns an outcome: the answer in the low byte, and above it how many reply bytes or
  * operations were handed out. They stand at the front of the lent room, and the rest of the room is
  * unchanged. Any answer but THRANDUE_DONE hands out nothing and changes no lent byte and no byte of
- * the image, save the two for a damaged packet, which stop the bridge. */
+ * the image, save the two for a damaged packet, which stop the bridge, and save that a packet and
+ * an end mark drop what is held, whatever their answer. */
 static inline uint8_t thrandue_answer(uint64_t outcome) {
     return (uint8_t)(outcome & 0xFF);
 }
@@ -61,8 +62,9 @@ static inline const uint8_t *thrandue_reply(uint64_t outcome, const uint8_t *mem
  *   MALFORMED                                            set right
  *
  * At configuration 0 there are no bulk endpoints, so no handshake. After NAK the same packet or
- * status request comes again: from the host, or from the port as soon as it lends more room. A
- * report is dropped where a reset has ended its command; one that is set right is made again.
+ * status request comes again: from the host, or from the port as soon as it lends more room; of a
+ * packet in bursts all of it, since its end mark has dropped it. A report is dropped where a reset
+ * has ended its command; one that is set right is made again.
  *
  * Whatever the answer was, a pipe that thrandue_halts names gets STALL until it is cleared. In a
  * stop, phase STOPPED or STOPPED_RESET, both pipes get it, also one that is cleared already: the
@@ -109,6 +111,15 @@ uint64_t thrandue_control(thrandue_image *image, const uint8_t *setup, size_t se
 uint32_t thrandue_packet(thrandue_image *image, const uint8_t *packet, size_t packet_len,
                          uint16_t *operations, size_t operations_len);
 
+/* A command packet that a front end hands over in bursts, and then an end mark. A burst is any
+ * number of bytes, none or more than a packet's too, and is held behind those before it; it answers
+ * DONE in every phase. The end mark judges what is held, as thrandue_packet judges a whole packet,
+ * and hands out its operations. What is held is dropped by every end mark and every whole packet,
+ * whatever its answer; by a bus reset; by a Mass Storage Reset, SOFT_RESET or Set Configuration
+ * that is done; by the Clear Feature that ends a stop; and by nothing else. */
+uint32_t thrandue_burst(thrandue_image *image, const uint8_t *burst, size_t burst_len);
+uint32_t thrandue_end_mark(thrandue_image *image, uint16_t *operations, size_t operations_len);
+
 /* The drive is done with the operations: direction 0 none, 1 in, 2 out; failed 0 or 1; the amount
  * of bytes that it moved. */
 uint32_t thrandue_report(thrandue_image *image, uint8_t direction, uint8_t failed, uint32_t amount);
@@ -135,6 +146,12 @@ enum {
     THRANDUE_HALT_IN = 0x02
 };
 uint8_t thrandue_halts(const thrandue_image *image);
+
+/* How many bytes of a packet in bursts are held: 0 to 31, or that more than a packet's came. */
+enum {
+    THRANDUE_HELD_TOO_LONG = 32
+};
+uint8_t thrandue_held(const thrandue_image *image);
 
 #ifdef __cplusplus
 }

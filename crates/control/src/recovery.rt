@@ -58,14 +58,14 @@ pub(crate) fn mass_storage_reset(phase: Phase) -> Change
     if is_stopped(phase) {
         return Change::Notes;
     }
-    Change::Awaits
+    Change::Resets
 }
 
 pub(crate) fn soft_reset(phase: Phase) -> Change
     ensures { λ r. ⌜ r ≡ softReset phase ⌝ }
 {
     if is_stopped(phase) {
-        return Change::Nothing;
+        return Change::Drops;
     }
-    Change::Awaits
+    Change::Resets
 }

@@ -1,61 +1,54 @@
 -- The image stays in step with the rules: at power-on, and with whatever change is put into it.
-use mathlib.Core.Path.{_≡_, refl, sym, ap, subst}
-use mathlib.Core.Bool.{Bool, true, false}
-use mathlib.Core.List.{List, [], _∷_, _++_}
-use Prim.Native.Nat.{ℕ, zero, suc, _+_}
+use mathlib.Core.Path.{_≡_, refl, ap, _∙_}
+use mathlib.Core.Bool.{Bool, true, false, cond}
+use mathlib.Core.List.{List, [], _++_}
+use Prim.Native.Nat.{ℕ}
 use native.Mathlib.Omega.{arith}
-use lib.ListN.{length, drop, drop-of-length-le}
-use lib.Seq.{drop-cons}
+use lib.ListN.{length, drop, replicate, length-set}
+use lib.Seq.{take-set-le}
 use Rattle.rules.specs.declared.Change.{Change}
-use Rattle.rules.specs.declared.Change.the-variants.{Nothing, Sets, Awaits, Begins, Finishes, Stops, Notes, Clears, Ends}
+use Rattle.rules.specs.declared.Change.the-variants.{Nothing, Sets, Awaits, Resets, Drops, Begins, Finishes, Stops, Notes, Clears, Ends}
 use Rattle.rules.specs.declared.Direction.the-variants.{Out, In}
-use Rattle.rules.specs.Words.{byte, over}
-use Rattle.rules.specs.Held.{world}
+use Rattle.rules.specs.Words.{over}
+use Rattle.rules.specs.Held.{world, holding}
 use Rattle.rules.specs.Held.{powered as atPowerOn}
-use Rattle.rules.specs.Changes.{made}
+use Rattle.rules.specs.Changes.{made, drops}
+use Rattle.rules.specs.Bursts.{kept}
 use Rattle.rules.specs.Demands.Sizes.{Sized}
 use Rattle.rules.proofs.Rows.{four-bytes}
-use Rattle.image.specs.Image.{decode, worldOf, powered, put, PowersOn, InStep}
+use Rattle.rules.proofs.Demands.Boundary.{none-given}
+use Rattle.image.proofs.Rows.{row, row-set, by-bytes}
+use Rattle.image.specs.Image.{bytesOf, decode, heldOf, worldOf, powered, dropped, put, PowersOn, InStep}
 
 pub powers-on : PowersOn
+unfolding kept
 powers-on dock memory = go (dock .«bus_powered»)
   where
     go : (b : Bool) → worldOf (powered (record { «bus_powered» = b })) memory ≡ atPowerOn (record { «bus_powered» = b }) memory
     go true = refl
     go false = refl
 
--- ---- an image, byte by byte
-
-abbrev row : ℕ → ℕ → List ℕ → List ℕ
-row k zero s = []
-row k (suc n) s = byte k s ∷ row (suc k) n s
-
-row-drops : (k n : ℕ) (s : List ℕ) → k + n ≡ length s → row k n s ≡ drop k s
-row-drops k zero s h = sym (drop-of-length-le s {i = k} (omega arith))
-row-drops k (suc n) s h = rw (drop-cons s k 0 (omega arith)) (ap (λ (l : List ℕ). byte k s ∷ l) (row-drops (suc k) n s (omega arith)))
-
--- what holds of its bytes in a row holds of it
-by-bytes : (n : ℕ) (s : List ℕ) → length s ≡ n → (F : List ℕ → Type 0) → F (row 0 n s) → F s
-by-bytes n s h F = subst F (row-drops 0 n s (omega arith))
-
 -- ---- a change, put into an image whose configuration bytes were written
 
 abbrev Puts : Change → List ℕ → List ℕ → List ℕ → Type 0
-Puts c bytes image memory = worldOf (put c (bytes ++ drop 16 image)) memory ≡ world (made c (decode image)) bytes memory
+Puts c bytes image memory =
+    worldOf (put c (bytes ++ drop 16 image)) memory ≡ holding (cond (drops c) [] (heldOf image)) (world (made c (decode image)) bytes memory)
 
 module _ (b i : List ℕ) where
   abbrev bytes : List ℕ
   bytes = row 0 16 b
 
   abbrev image : List ℕ
-  image = row 0 30 i
+  image = row 0 62 i
 
   put-bytes : (c : Change) → Sized c → (memory : List ℕ) → Puts c bytes image memory
-  unfolding over
+  unfolding over kept
   put-bytes Nothing z memory = refl
   put-bytes (Sets true) z memory = refl
   put-bytes (Sets false) z memory = refl
   put-bytes Awaits z memory = refl
+  put-bytes Resets z memory = refl
+  put-bytes Drops z memory = refl
   put-bytes (Begins Out tag l) z memory = rw (four-bytes tag (z .0), four-bytes l (z .1))
   put-bytes (Begins In tag l) z memory = rw (four-bytes tag (z .0), four-bytes l (z .1))
   put-bytes (Finishes Out true status tag residue) z memory = rw (four-bytes tag (z .0), four-bytes residue (z .1))
@@ -71,18 +64,45 @@ module _ (b i : List ℕ) where
 pub in-step : InStep
 in-step c bytes image memory n h z =
     by-bytes 16 bytes n (λ b. Puts c b image memory)
-    (by-bytes 30 image h (λ i. Puts c (row 0 16 bytes) i memory) (put-bytes bytes image c z memory))
+    (by-bytes 62 image h (λ i. Puts c (row 0 16 bytes) i memory) (put-bytes bytes image c z memory))
+
+-- ---- where what is held was dropped before
+
+dropped-apart : (bytes image : List ℕ) → length bytes ≡ 16 → length image ≡ 62 → dropped (bytes ++ drop 16 image) ≡ bytes ++ drop 16 (dropped image)
+dropped-apart bytes image n h =
+    by-bytes 16 bytes n (λ b. dropped (b ++ drop 16 image) ≡ b ++ drop 16 (dropped image))
+    (by-bytes 62 image h (λ i. dropped (row 0 16 bytes ++ drop 16 i) ≡ row 0 16 bytes ++ drop 16 (dropped i)) refl)
+
+-- the bridge and its configuration bytes stand before what is held
+pub dropped-decodes : (image : List ℕ) → decode (dropped image) ≡ decode image
+dropped-decodes image = ap (λ (r : List ℕ). decode (replicate 16 0 ++ r)) (row-set 16 14 61 0 image (omega arith))
+
+pub dropped-bytes : (image : List ℕ) → bytesOf (dropped image) ≡ bytesOf image
+dropped-bytes image = take-set-le 16 image 61 0 (omega arith)
+
+dropped-holds : (image : List ℕ) → length image ≡ 62 → heldOf (dropped image) ≡ []
+unfolding kept
+dropped-holds image h = by-bytes 62 image h (λ i. heldOf (dropped i) ≡ []) refl
+
+pub dropped-in-step : (c : Change) (bytes image memory : List ℕ) → length bytes ≡ 16 → length image ≡ 62 → Sized c
+    → worldOf (put c (dropped (bytes ++ drop 16 image))) memory ≡ world (made c (decode image)) bytes memory
+dropped-in-step c bytes image memory n h z =
+    ap (λ (i : List ℕ). worldOf (put c i) memory) (dropped-apart bytes image n h)
+    ∙ in-step c bytes (dropped image) memory n (length-set image 61 0 ∙ h) z
+    ∙ rw (dropped-holds image h, dropped-decodes image, none-given)
 
 -- ---- and it stays an image
 
-pub put-length : (c : Change) (image : List ℕ) → length image ≡ 30 → length (put c image) ≡ 30
+pub put-length : (c : Change) (image : List ℕ) → length image ≡ 62 → length (put c image) ≡ 62
 unfolding over
-put-length c image h = by-bytes 30 image h (λ i. length (put c i) ≡ 30) (go c)
+put-length c image h = by-bytes 62 image h (λ i. length (put c i) ≡ 62) (go c)
   where
-    go : (c : Change) → length (put c (row 0 30 image)) ≡ 30
+    go : (c : Change) → length (put c (row 0 62 image)) ≡ 62
     go Nothing = refl
     go (Sets configured) = refl
     go Awaits = refl
+    go Resets = refl
+    go Drops = refl
     go (Begins direction tag l) = refl
     go (Finishes Out true status tag residue) = refl
     go (Finishes In true status tag residue) = refl

@@ -1,2 +1,4 @@
+pub mod Rows
+pub mod Holding
 pub mod InStep
 pub mod Unique

@@ -8,6 +8,8 @@ use Rattle.image.proofs.«power_on» as PowerOn
 use Rattle.image.proofs.«signature_of» as SignatureOf
 use Rattle.image.proofs.seen as Seen
 use Rattle.image.proofs.load as Load
+use Rattle.image.proofs.held as Held
+use Rattle.image.proofs.hold as Hold
 use Rattle.image.proofs.make as Make
 
 pub «power_on» : OneOutcome PowerOn.Kinds.ps PowerOn.Kinds.r PowerOn.Reads.Post
@@ -24,3 +26,9 @@ load κs a r r' left left' p q = (only p q, refl)
 
 pub make : OneOutcome Make.Kinds.ps Make.Kinds.r Make.Reads.Post
 make κs a r r' left left' p q = (refl, ap (λ (now : List ℕ). (now, (tt, tt))) (only p q))
+
+pub held : OneOutcome Held.Kinds.ps Held.Kinds.r Held.Reads.Post
+held κs a r r' left left' p q = (only p q, refl)
+
+pub hold : OneOutcome Hold.Kinds.ps Hold.Kinds.r Hold.Reads.Post
+hold κs a r r' left left' p q = (refl, ap (λ (now : List ℕ). (now, (tt, tt))) (only p q))

@@ -1,13 +1,14 @@
-// The image of a bridge with its configuration bytes: thirty bytes, read, and changed in place.
+// The image of a bridge with its configuration bytes and what it holds of a packet in bursts: sixty-two bytes, read, and changed in place.
 ghost use mathlib.Core.Path.{_≡_};
 ghost use mathlib.Core.List.{[]};
-ghost use lib.ListN.{set};
+ghost use lib.ListN.{set, drop};
 ghost use Rattle.rules.specs.Words.{long, byte};
 ghost use Rattle.rules.specs.Answers.{seenOf};
 ghost use Rattle.rules.specs.Packets.{signatureOf};
-ghost use Rattle.image.specs.Image.{bytesOf, isMarked, directionFrom, phaseFrom, dockOf, decode, worldOf, powered, numbered, phased, marked, calm, put};
+ghost use Rattle.image.specs.Image.{bytesOf, isMarked, directionFrom, phaseFrom, dockOf, decode, worldOf, heldIn, powered, numbered, phased, marked, calm, put, added};
 use rules::Bridge;
 use rules::Change;
+use rules::CommandPacket;
 use rules::Direction;
 use rules::Dock;
 use rules::Halts;
@@ -16,10 +17,10 @@ use rules::Seen;
 use rules::addresses::StringIndex;
 use rules::fields::FIRST_STRING;
 
-pub const IMAGE: usize = 30;
+pub const IMAGE: usize = 62;
 
 // Behind the sixteen configuration bytes stand the tag, and L or the residue; a mark each for configured, bulk out halted and bulk in halted; the
-// phase; its direction, its status or its note; and, fixed at power-on, a mark for bus powered.
+// phase; its direction, its status or its note; fixed at power-on, a mark for bus powered; and what is held: the bytes, and how many they are.
 const SIGNATURE: usize = 0x04;
 
 const TAG: usize = 16;
@@ -38,6 +39,10 @@ const DETAIL: usize = 28;
 
 const BUS_POWERED: usize = 29;
 
+const HELD: usize = 30;
+
+const COUNT: usize = 61;
+
 const AWAITING: u8 = 0;
 
 const BUSY: u8 = 1;
@@ -45,6 +50,15 @@ const BUSY: u8 = 1;
 const STATUS_WAITING: u8 = 2;
 
 const STOPPED: u8 = 3;
+
+// The count of what is more than a packet.
+const TOO_LONG: u8 = 32;
+
+// What is held, with room for a byte more than a packet has, and how much of it counts.
+pub struct Fragments {
+    pub bytes: [u8; 32],
+    pub count: usize,
+}
 
 // Whatever it held, an image is that of a dock's bridge at power-on.
 pub fn power_on(image: &mut [u8; IMAGE], dock: Dock)
@@ -152,6 +166,47 @@ pub fn load(image: &[u8; IMAGE]) -> Bridge
     }
 }
 
+fn count_of(image: &[u8; IMAGE]) -> u8
+    ensures { λ r. ⌜ r ≡ byte 61 (now (image .entry)) ⌝ }
+{
+    image[COUNT]
+}
+
+fn held_bytes(image: &[u8; IMAGE]) -> [u8; 32]
+    ensures { λ r. ⌜ r ≡ drop 30 (now (image .entry)) ⌝ }
+{
+    let mut bytes = [0; 32];
+    lent::copy(&mut bytes, 0, lent::part(image, HELD, 32));
+    bytes
+}
+
+// What is held, by value: so it can be judged while the image is changed.
+pub fn held(image: &[u8; IMAGE]) -> Fragments
+    ensures { λ r. ⌜ r ≡ heldIn (now (image .entry)) ⌝ }
+{
+    let bytes = held_bytes(image);
+    let count = lent::part(&bytes, 0, count_of(image) as usize).len();
+    Fragments {
+        bytes: bytes,
+        count: count,
+    }
+}
+
+// A burst is held behind what is held; where that is more than a packet, that it is too long.
+pub fn hold(image: &mut [u8; IMAGE], burst: &[u8])
+    ensures { λ u. ⌜ now (image .exit) ≡ added (now (burst .entry)) (now (image .entry)) ⌝ }
+{
+    let n = count_of(image) as usize;
+    if (n > CommandPacket::LENGTH) || (burst.len() > CommandPacket::LENGTH - n) {
+        image[COUNT] = TOO_LONG;
+        return;
+    }
+    let mut bytes = held_bytes(image);
+    lent::copy(&mut bytes, n, burst);
+    lent::copy(image, HELD, &bytes);
+    image[COUNT] = (n + burst.len()) as u8;
+}
+
 fn put_numbers(image: &mut [u8; IMAGE], tag: u32, amount: u32)
     ensures { λ u. ⌜ now (image .exit) ≡ numbered tag amount (now (image .entry)) ⌝ }
 {
@@ -186,12 +241,13 @@ fn put_halts(image: &mut [u8; IMAGE], mark: u8)
     image[INWARD] = mark;
 }
 
-// Awaiting, no halts.
+// Awaiting, no halts, nothing held.
 fn put_calm(image: &mut [u8; IMAGE])
     ensures { λ u. ⌜ now (image .exit) ≡ calm (now (image .entry)) ⌝ }
 {
     put_halts(image, 0);
     image[PHASE] = AWAITING;
+    image[COUNT] = 0;
 }
 
 // A change is made, in place. What an earlier phase left where this one has nothing stays.
@@ -206,6 +262,13 @@ pub fn make(image: &mut [u8; IMAGE], change: Change)
         }
         Change::Awaits => {
             image[PHASE] = AWAITING;
+        }
+        Change::Resets => {
+            image[PHASE] = AWAITING;
+            image[COUNT] = 0;
+        }
+        Change::Drops => {
+            image[COUNT] = 0;
         }
         Change::Begins {
             direction,
@@ -232,7 +295,10 @@ pub fn make(image: &mut [u8; IMAGE], change: Change)
             put_halts(image, 1);
             put_phase(image, STOPPED, 0);
         }
-        Change::Notes => put_phase(image, STOPPED, 1),
+        Change::Notes => {
+            put_phase(image, STOPPED, 1);
+            image[COUNT] = 0;
+        }
         Change::Clears(direction) => put_halt(image, direction, 0),
         Change::Ends => put_calm(image),
     }

@@ -140,6 +140,8 @@ pub fn changed(change: Change, b: Bridge) -> Bridge
         Change::Nothing => b,
         Change::Sets(configured) => fresh(configured, b),
         Change::Awaits => in_phase(Phase::Awaiting, b),
+        Change::Resets => in_phase(Phase::Awaiting, b),
+        Change::Drops => b,
         Change::Begins {
             direction,
             tag,

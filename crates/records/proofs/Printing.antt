@@ -1,7 +1,7 @@
 -- From an event's promise and the line of its outcome to what the event prints.
 use mathlib.Core.Path.{_≡_, refl, sym, ap, _∙_, subst}
 use mathlib.Core.Bool.{Bool, true, false, not, _||_, true≢false}
-use mathlib.Core.List.{List}
+use mathlib.Core.List.{List, []}
 use Prim.Native.Nat.{ℕ, _+_, _-_, _≤_, min}
 use native.Mathlib.Omega.{arith}
 use lib.Dec.{eqb, ltb}
@@ -12,11 +12,12 @@ use Rattle.rules.specs.declared.Stands.{Stands}
 use Rattle.rules.specs.declared.Stands.the-variants.{InRoom, InMemory}
 use Rattle.rules.specs.declared.addresses.Address.{Address}
 use Rattle.rules.specs.Words.{laid}
-use Rattle.rules.specs.Held.{World, world, sizeOf, fitted}
+use Rattle.rules.specs.Held.{World, world, holding, sizeOf, fitted}
 use Rattle.rules.specs.Descriptors.{numberOf}
 use Rattle.rules.specs.Changes.{made}
-use Rattle.rules.specs.Step.{Event, Control, StatusRequest, step}
+use Rattle.rules.specs.Step.{Event, Control, StatusRequest, heldAfter, step}
 use Rattle.rules.specs.Promise.{Left, leftAt, handedOut, roomWith, leaves}
+use Rattle.rules.proofs.Demands.Boundary.{none-given}
 use Rattle.rules.proofs.Demands.Descriptors.{what-stands-is-there}
 use Rattle.outcomes.specs.declared.Outcome.{Outcome}
 use Rattle.outcomes.specs.Outcomes.{leftBy}
@@ -39,15 +40,17 @@ module _ (w : World) (event : ℕ → Event) (room : List ℕ) (stands : Stands)
   stands-is : stands ≡ step w e .stands
   stands-is = ap (λ (l : Left). l .stands) h
 
-  world-is : world (made (o .change) (w .bridge)) bytes memory ≡ step w e .next
+  -- where nothing is held
+  world-is : heldAfter w e ≡ [] → world (made (o .change) (w .bridge)) bytes memory ≡ step w e .next
   unfolding step
-  world-is = ap (λ (l : Left). world (made (l .change) (w .bridge)) (l .bytes) (l .memory)) h
+  world-is none =
+      ap (λ (l : Left). world (made (l .change) (w .bridge)) (l .bytes) (l .memory)) h ∙ ap (λ (held : List ℕ). holding held (step w e .next)) (sym none)
 
   -- where what was handed out stands at the front of what is shown
-  prints-front : (f : ℕ → List ℕ) → hexOf e ≡ f → {shown into after : List ℕ} {at : ℕ} {p : Printed} → take (o .count) shown ≡ out
+  prints-front : (f : ℕ → List ℕ) → hexOf e ≡ f → heldAfter w e ≡ [] → {shown into after : List ℕ} {at : ℕ} {p : Printed} → take (o .count) shown ≡ out
       → Line f (w .bridge) o shown into at p after → Prints w e into at p bytes memory after
-  prints-front f hex front l = record {
-    next = rw (l .bridge) world-is;
+  prints-front f hex none front l = record {
+    next = rw (l .bridge) (world-is none);
     line = rw (hex, ← front, sym (ap (λ (x : Left). x .answer) h)) (l .line);
     fits = l .fits;
   }
@@ -75,9 +78,9 @@ module _ (w : World) (event : ℕ → Event) (room : List ℕ) (o : Outcome) (by
   front-of-room : take (o .count) now ≡ handed
   front-of-room = rw (count, now-is) (take-append-seam handed (drop (length handed) room))
 
-  pub prints : (f : ℕ → List ℕ) → hexOf (event (length room)) ≡ f → {into after : List ℕ} {at : ℕ} {p : Printed} → Line f (w .bridge) o now into at p after
-      → Prints w (event (length room)) into at p bytes memory after
-  prints f hex l = prints-front w event room InRoom o bytes memory now h f hex front-of-room l
+  pub prints : (f : ℕ → List ℕ) → hexOf (event (length room)) ≡ f → heldAfter w (event (length room)) ≡ [] → {into after : List ℕ} {at : ℕ} {p : Printed}
+      → Line f (w .bridge) o now into at p after → Prints w (event (length room)) into at p bytes memory after
+  prints f hex none l = prints-front w event room InRoom o bytes memory now h f hex none front-of-room l
 
 -- ---- what a control request hands out, wherever it stands
 
@@ -126,15 +129,15 @@ control-event p reply {n} is l = rw (take-all (length p - n) (drop n p) (rw leng
     go false e = let m : min (length p) 8 ≡ 8 = omega (arith, ltb-false (length p) 8 e) in rw m
 
 pub control-prints : (w : World) (p reply : List ℕ) {n : ℕ} (stands : Stands) {o : Outcome} {bytes memory now shown into after : List ℕ} {at : ℕ} {printed : Printed}
-    → n ≡ min (length p) 8 → length reply ≡ 4096
+    → w .held ≡ [] → n ≡ min (length p) 8 → length reply ≡ 4096
     → leftAt stands (o .answer) (o .count) (o .change) bytes memory now ≡ leaves w (Control (take n p) (take (length p - n) (drop n p))) reply
     → shown ≡ shownOf stands (o .count) memory now → Line hexByte (w .bridge) o shown into at printed after
     → Prints w (eventOf 2 p) into at printed bytes memory after
-control-prints w p reply {n} stands {o} {bytes} {memory} {now} {shown} {into} {after} {at} {printed} is l h by line =
+control-prints w p reply {n} stands {o} {bytes} {memory} {now} {shown} {into} {after} {at} {printed} none is l h by line =
     let setup : List ℕ = take n p in
     let host : List ℕ = take (length p - n) (drop n p) in
     subst (λ (e : Event). Prints w e into at printed bytes memory after) (control-event p reply is l)
-    (prints-front w (Control setup host) reply stands o bytes memory now h hexByte refl (front w setup host reply o bytes memory now stands h by) line)
+    (prints-front w (Control setup host) reply stands o bytes memory now h hexByte refl (rw (none, none-given)) (front w setup host reply o bytes memory now stands h by) line)
 
 -- "a report payload that isn't 6 bytes" is torn
 pub report-six : {kind n : ℕ} → kind ≡ 4 → torn kind n ≡ false → n ≡ 6
@@ -148,9 +151,9 @@ report-six {kind} {n} k h = go (ltb 520 n) (eqb n 6) refl (rw k at h)
 
 -- a kind that is none of the others is that of a status request
 pub status-prints : (w : World) {kind : ℕ} (p reply : List ℕ) {o : Outcome} {bytes memory now into after : List ℕ} {at : ℕ} {printed : Printed}
-    → (kind ≡ 1 → ⊥) → (kind ≡ 2 → ⊥) → (kind ≡ 3 → ⊥) → (kind ≡ 4 → ⊥) → length reply ≡ 4096
+    → w .held ≡ [] → (kind ≡ 1 → ⊥) → (kind ≡ 2 → ⊥) → (kind ≡ 3 → ⊥) → (kind ≡ 4 → ⊥) → length reply ≡ 4096
     → leftBy o bytes memory now ≡ leaves w StatusRequest reply → Line hexByte (w .bridge) o now into at printed after
     → Prints w (eventOf kind p) into at printed bytes memory after
 unfolding eventOf
-status-prints w {kind} p reply {o} {bytes} {memory} {now} a b c d l h line =
-    rw (ne-eqb kind 1 a, ne-eqb kind 2 b, ne-eqb kind 3 c, ne-eqb kind 4 d, ← l) (prints w StatusRequest reply o bytes memory now h hexByte refl line)
+status-prints w {kind} p reply {o} {bytes} {memory} {now} none a b c d l h line =
+    rw (ne-eqb kind 1 a, ne-eqb kind 2 b, ne-eqb kind 3 c, ne-eqb kind 4 d, ← l) (prints w StatusRequest reply o bytes memory now h hexByte refl none line)

@@ -4,7 +4,7 @@ use mathlib.Core.Bool.{cond}
 use mathlib.Core.List.{List, [], _∷_, _++_}
 use lib.Dec.{ltb}
 use Rattle.rules.specs.Held.{World}
-use Rattle.rules.specs.Step.{Event, BusReset, Control, Packet, Report, StatusRequest, Outcome}
+use Rattle.rules.specs.Step.{Event, BusReset, Control, Packet, Report, StatusRequest, Burst, EndMark, Outcome}
 use Rattle.rules.specs.Promise.{handedOut}
 
 -- a digit: 0 to 9, then A on
@@ -34,6 +34,8 @@ hexOf (Control setup host room) = hexByte
 hexOf (Packet p room) = hexWord
 hexOf (Report direction failed amount) = hexByte
 hexOf (StatusRequest room) = hexByte
+hexOf (Burst bytes) = hexByte
+hexOf (EndMark room) = hexWord
 
 abbrev pub line : Event → Outcome World → List ℕ
 line e o = number (o .answer) ++ each (hexOf e) (handedOut e o) ++ 0x0A ∷ []

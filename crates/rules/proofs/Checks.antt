@@ -15,7 +15,7 @@ use Rattle.rules.specs.Words.{Check, first}
 use Rattle.rules.specs.Held.{World, sizeOf}
 use Rattle.rules.specs.Requests.{Named, Unknown, Known, isUnknown, Row, table, fits, lookup, setupOf, requestOf, isA, inBytes, inMemory, address, sent}
 use Rattle.rules.specs.Answers.{requestChecks, requestAnswer}
-use Rattle.rules.specs.Step.{Event, BusReset, Control, Packet, Report, StatusRequest, answer, stands, done, damaged}
+use Rattle.rules.specs.Step.{Event, BusReset, Control, Packet, Report, StatusRequest, Burst, EndMark, answer, stands, done, damaged}
 
 -- what is picked by a test has a property that both have
 picked : {A : Type 0} (has : A → Bool) (t : Bool) (x y : A) → (t ≡ true → has x ≡ true) → has y ≡ true → has (cond t x y) ≡ true
@@ -197,3 +197,5 @@ in-room w (Control setup host room) d = rw d
 in-room w (Packet bytes room) d = refl
 in-room w (Report direction failed amount) d = refl
 in-room w (StatusRequest room) d = refl
+in-room w (Burst bytes) d = refl
+in-room w (EndMark room) d = refl

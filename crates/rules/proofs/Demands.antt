@@ -19,3 +19,4 @@ pub mod Turns
 pub mod Mends
 pub mod Numbers
 pub mod Descriptors
+pub mod Bursts

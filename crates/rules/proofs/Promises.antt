@@ -22,7 +22,7 @@ use Rattle.rules.specs.Requests.{Known, Describes, setupOf, requestOf, r
 use Rattle.rules.specs.Packets.{commandOf, recognises, commandTaken, statusPacket}
 use Rattle.rules.specs.Reports.{hostNumber, mismatch, reportTaken}
 use Rattle.rules.specs.Answers.{seenOf, requestAnswer, packetAnswer, reportAnswer, statusAnswer}
-use Rattle.rules.specs.Step.{Event, BusReset, Control, Packet, Report, StatusRequest, Outcome, operationsFor, answer, stands, done, damaged, change, step}
+use Rattle.rules.specs.Step.{Event, BusReset, Control, Packet, Report, StatusRequest, Burst, EndMark, Outcome, operationsFor, answer, stands, done, damaged, change, step}
 use Rattle.rules.specs.Promise.{leftAt, left, handedOut, leaves, Told, ToldOf, served}
 use Rattle.rules.proofs.Checks.{in-room}
 use Rattle.rules.proofs.Rows.{over-laid}
@@ -34,6 +34,8 @@ nothing (Control setup host room) o r p = r
 nothing (Packet bytes room) o r p = p
 nothing (Report direction failed amount) o r p = r
 nothing (StatusRequest room) o r p = r
+nothing (Burst bytes) o r p = r
+nothing (EndMark room) o r p = p
 
 -- what a refusal changes: "13 and 14 stop the bridge"
 abbrev pub refused : ℕ → Change

@@ -1,8 +1,8 @@
--- What an event may change of the bridge, and the bridge with it made. Nothing else changes a bridge.
-use mathlib.Core.Bool.{true, false}
+-- What an event may change of the bridge, the bridge with it made, and whether it drops what is held. Nothing else changes a bridge.
+use mathlib.Core.Bool.{Bool, true, false}
 use Rattle.rules.specs.declared.Bridge.{Bridge}
 use Rattle.rules.specs.declared.Change.{Change}
-use Rattle.rules.specs.declared.Change.the-variants.{Nothing, Sets, Awaits, Begins, Finishes, Stops, Notes, Clears, Ends}
+use Rattle.rules.specs.declared.Change.the-variants.{Nothing, Sets, Awaits, Resets, Drops, Begins, Finishes, Stops, Notes, Clears, Ends}
 use Rattle.rules.specs.declared.Phase.the-variants.{Awaiting, Busy, StatusWaiting, Stopped}
 use Rattle.rules.specs.Held.{configuring, inPhase, halted, halting, clearing}
 
@@ -11,8 +11,12 @@ abbrev pub made : Change → Bridge → Bridge
 made Nothing b = b
 -- "sets it; awaiting, no halts". A bus reset "restores those three".
 made (Sets c) b = configuring c (inPhase Awaiting (halted false false b))
--- "busy or status waiting becomes awaiting; halts stay"
+-- "hands it out and the bridge then awaits"
 made Awaits b = inPhase Awaiting b
+-- "busy or status waiting becomes awaiting; halts stay"
+made Resets b = inPhase Awaiting b
+-- "no effect on a stop"
+made Drops b = b
 -- "makes the phase busy"
 made (Begins direction tag l) b = inPhase (Busy direction tag l) b
 -- "The phase becomes status waiting", "and the pipe of the direction is halted" or not
@@ -25,3 +29,18 @@ made Notes b = inPhase (Stopped true) b
 made (Clears direction) b = clearing direction b
 -- "the second pipe cleared": a stop ends
 made Ends b = inPhase Awaiting (halted false false b)
+
+-- "What was held is dropped .. by a .. bus reset, accepted Mass Storage Reset, SOFT_RESET or Set Configuration, or the Clear Feature that ends a stop":
+-- by what these change
+abbrev pub drops : Change → Bool
+drops Nothing = false
+drops (Sets c) = true
+drops Awaits = false
+drops Resets = true
+drops Drops = true
+drops (Begins direction tag l) = false
+drops (Finishes direction halts status tag residue) = false
+drops Stops = false
+drops Notes = true
+drops (Clears direction) = false
+drops Ends = true

@@ -13,3 +13,4 @@ pub mod Coherence
 pub mod Mends
 pub mod Numbers
 pub mod Descriptors
+pub mod Bursts

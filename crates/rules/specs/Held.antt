@@ -11,14 +11,20 @@ use Rattle.rules.specs.declared.Halts.{Halts}
 use Rattle.rules.specs.declared.Phase.{Phase}
 use Rattle.rules.specs.declared.Phase.the-variants.{Awaiting, Busy, StatusWaiting, Stopped}
 
--- The bridge with the sixteen configuration bytes and the memory part beside it.
+-- The bridge with the sixteen configuration bytes, the memory part and what is held of a packet in bursts beside it.
 pub record World : Type 0 where
   pub bridge : Bridge
   pub bytes : List ℕ
   pub memory : List ℕ
+  pub held : List ℕ
 
+-- with nothing held
 abbrev pub world : Bridge → List ℕ → List ℕ → World
-world b bytes memory = record { bridge = b; bytes = bytes; memory = memory }
+world b bytes memory = record { bridge = b; bytes = bytes; memory = memory; held = [] }
+
+-- with this held
+abbrev pub holding : List ℕ → World → World
+holding held w = record { bridge = w .bridge; bytes = w .bytes; memory = w .memory; held = held }
 
 -- "USB configuration: 0 or 2."
 abbrev pub configuration : Bridge → ℕ

@@ -5,6 +5,7 @@ pub mod Descriptors
 pub mod Requests
 pub mod Answers
 pub mod Packets
+pub mod Bursts
 pub mod Operations
 pub mod Reports
 pub mod Stopping

@@ -13,7 +13,7 @@ use Rattle.rules.specs.Words.{laid, over}
 use Rattle.rules.specs.Held.{World, world}
 use Rattle.rules.specs.Requests.{Known, replyTo, replies, changeBy, bytesAfter, memoryAfter}
 use Rattle.rules.specs.Packets.{signatureOf}
-use Rattle.rules.specs.Step.{Event, BusReset, Control, Packet, Report, StatusRequest, Outcome, change, step}
+use Rattle.rules.specs.Step.{Event, BusReset, Control, Packet, Report, StatusRequest, Burst, EndMark, Outcome, change, step}
 
 -- the answer, how many bytes or operations were handed out and where they stand, what is changed of the bridge, and the configuration bytes, the memory
 -- and the lent room
@@ -33,13 +33,15 @@ leftAt stands answer count change bytes memory room =
 abbrev pub left : ℕ → ℕ → Change → List ℕ → List ℕ → List ℕ → Left
 left answer count change bytes memory room = leftAt InRoom answer count change bytes memory room
 
--- what goes into the lent room: the operations of a packet, the reply to anything else
+-- what goes into the lent room: the operations of a packet or an end mark, the reply to anything else
 abbrev pub handedOut : Event → Outcome World → List ℕ
 handedOut BusReset o = o .reply
 handedOut (Control setup host room) o = o .reply
 handedOut (Packet p room) o = o .operations
 handedOut (Report direction failed amount) o = o .reply
 handedOut (StatusRequest room) o = o .reply
+handedOut (Burst bytes) o = o .reply
+handedOut (EndMark room) o = o .operations
 
 -- the room with what is handed out at its front; where that stands in the memory, "the reply buffer is then unchanged"
 abbrev pub roomWith : Stands → List ℕ → List ℕ → List ℕ
@@ -54,7 +56,8 @@ leaves w event room =
     leftAt (o .stands) (o .answer) (length (handedOut e o)) (change w e) (o .next .bytes) (o .next .memory)
     (roomWith (o .stands) (handedOut e o) room)
 
--- a call that is lent neither bytes nor memory promises the same with all of them, and leaves them as they are
+-- a call that is lent neither bytes nor memory promises the same with all of them, and leaves them as they are; what is held it does not see, since by
+-- Demands.Bursts.HeldEntersNothing it enters an end mark alone
 abbrev pub Told : Bridge → (ℕ → Event) → List ℕ → ℕ → ℕ → Change → List ℕ → Type 0
 Told b event room answer count change now =
     (bytes memory : List ℕ) → left answer count change bytes memory now ≡ leaves (world b bytes memory) event room

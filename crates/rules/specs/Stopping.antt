@@ -4,7 +4,7 @@ use mathlib.Core.Bool.{Bool, true, cond, not, _&&_}
 use lib.Dec.{eqb}
 use Rattle.rules.specs.declared.Bridge.{Bridge}
 use Rattle.rules.specs.declared.Change.{Change}
-use Rattle.rules.specs.declared.Change.the-variants.{Nothing, Awaits, Notes, Clears, Ends}
+use Rattle.rules.specs.declared.Change.the-variants.{Nothing, Resets, Drops, Notes, Clears, Ends}
 use Rattle.rules.specs.declared.Direction.{Direction}
 use Rattle.rules.specs.declared.Direction.the-variants.{Out, In}
 use Rattle.rules.specs.declared.Phase.{Phase}
@@ -27,10 +27,10 @@ abbrev pub clearFeature : ℕ → Bridge → Change
 clearFeature index b =
     cond (eqb index bulkOut) (clearsPipe (b .phase) Out (b .halts .inward)) (clearsPipe (b .phase) In (b .halts .outward))
 
--- Mass Storage Reset: "busy or status waiting becomes awaiting; halts stay". A stop notes it; "a second reset changes nothing".
+-- Mass Storage Reset: "busy or status waiting becomes awaiting; halts stay". A stop notes it; "a second reset changes nothing" but what is held.
 abbrev pub massStorageReset : Phase → Change
-massStorageReset p = cond (isStopped p) Notes Awaits
+massStorageReset p = cond (isStopped p) Notes Resets
 
--- SOFT_RESET: "as Mass Storage Reset, but no effect on a stop"
+-- SOFT_RESET: "as Mass Storage Reset, but no effect on a stop"; what is held it drops in a stop too
 abbrev pub softReset : Phase → Change
-softReset p = cond (isStopped p) Nothing Awaits
+softReset p = cond (isStopped p) Drops Resets

@@ -98,12 +98,15 @@ pub fn power_on_bytes() -> [u8; 16]
     [0, 0, 0, 0, 0x24, 0, 0, 0, 0, 0, 0, 0, 0, 0, 0, 0]
 }
 
-// What an event changes of the bridge: nothing; the configuration is set, awaiting, no halts; a command is awaited; a command begins; it finishes, and
-// its direction's pipe is halted or not; the bridge stops; a stop notes a Mass Storage Reset; a pipe's halt is cleared; a stop ends.
+// What an event changes of the bridge: nothing; the configuration is set, awaiting, no halts; a command is awaited; a reset has one awaited; what is
+// held is dropped, and no more; a command begins; it finishes, and its direction's pipe is halted or not; the bridge stops; a stop notes a Mass Storage
+// Reset; a pipe's halt is cleared; a stop ends.
 pub enum Change {
     Nothing,
     Sets(bool),
     Awaits,
+    Resets,
+    Drops,
     Begins {
         direction: Direction,
         tag: u32,

@@ -4,23 +4,27 @@ use mathlib.Core.Bool.{Bool, true, false, cond, not, _&&_}
 use mathlib.Core.List.{List, [], _∷_, _++_}
 use Prim.Native.Nat.{ℕ, _+_}
 use native.Mathlib.Omega.{arith}
-use lib.ListN.{length, drop, length-append, length-drop}
+use lib.ListN.{length, drop, length-set, length-append, length-drop, take-append-drop}
 use Rattle.rules.specs.declared.Request.the-variants.{LoadConfigData}
 use Rattle.rules.specs.declared.Dock.{Dock}
 use Rattle.rules.specs.Words.{word, over}
-use Rattle.rules.specs.Held.{World}
+use Rattle.rules.specs.Held.{World, holding}
 use Rattle.rules.specs.Held.{powered as atPowerOn}
 use Rattle.rules.specs.Requests.{setupOf, requestOf, isA, inMemory}
-use Rattle.rules.specs.Step.{Event, BusReset, Control, Packet, Report, StatusRequest, Outcome, answer, done, bytesDone, change, step, rules, after, reached}
+use Rattle.rules.specs.Step.{Event, BusReset, Control, Packet, Report, StatusRequest, Burst, EndMark, Outcome, answer, done, bytesDone, change, heldAfter, step, rules, after, reached}
 use Rattle.rules.specs.Promise.{handedOut, roomWith}
 use Rattle.rules.specs.Demands.Boundary.{statusIn, Silent}
-use Rattle.rules.specs.Demands.Sizes.{AllOfBytes, Numbers}
+use Rattle.rules.specs.Demands.Refusals.{judgesPacket}
+use Rattle.rules.specs.Demands.Bursts.{isBurst}
+use Rattle.rules.specs.Demands.Sizes.{AllOfBytes, Sized}
 use Rattle.rules.proofs.Rows.{over-length}
 use Rattle.rules.proofs.Demands.Boundary.{after-append, silence, resumption}
-use Rattle.rules.proofs.Demands.Sizes.{sized, stepped, stays-sized}
-use Rattle.image.specs.Image.{bytesOf, powered, worldOf}
-use Rattle.image.proofs.InStep.{powers-on, in-step, put-length}
-use Rattle.thrandue.specs.Calls.{returns}
+use Rattle.rules.proofs.Bursts.{held-by-change}
+use Rattle.rules.proofs.Demands.Sizes.{Measured, sized, stepped, measured, measured-on}
+use Rattle.image.specs.Image.{bytesOf, powered, worldOf, dropped, put, added}
+use Rattle.image.proofs.Holding.{added-length, burst-in-step}
+use Rattle.image.proofs.InStep.{powers-on, in-step, dropped-in-step, put-length}
+use Rattle.thrandue.specs.Calls.{returns, holds}
 use Rattle.thrandue.specs.Sequences.{StandsForIt, Call, eventOf, eventsOf, Learnt, learnt, Parts, calling, partsAfter, learns, partsSince, standsFor, ruled, FromPowerOn, Hushed, AllHushed, CallsAreSilent, CallsResume}
 use Rattle.thrandue.proofs.Laws.{sixteen}
 
@@ -36,8 +40,10 @@ written bytes (Control setup host room) = go (isA LoadConfigData (requestOf (set
 written bytes (Packet p room) = refl
 written bytes (Report direction failed amount) = refl
 written bytes (StatusRequest room) = refl
+written bytes (Burst burst) = refl
+written bytes (EndMark room) = refl
 
-sixteen-left : (image memory : List ℕ) (e : Event) → length image ≡ 30 → length (step (worldOf image memory) e .next .bytes) ≡ 16
+sixteen-left : (image memory : List ℕ) (e : Event) → length image ≡ 62 → length (step (worldOf image memory) e .next .bytes) ≡ 16
 unfolding step
 sixteen-left image memory e h = go (done (answer (worldOf image memory) e)) ∙ sixteen image (omega arith)
   where
@@ -45,38 +51,81 @@ sixteen-left image memory e h = go (done (answer (worldOf image memory) e)) ∙ 
     go true = written (bytesOf image) e
     go false = refl
 
+module _ (image memory : List ℕ) (h : length image ≡ 62) where
+  abbrev w : World
+  w = worldOf image memory
+
+  -- an image with the event's bytes written, with what is held changed, and with its change put stands for what the rules leave
+  abbrev Stands : (List ℕ → List ℕ) → Event → Type 0
+  Stands hold e =
+      let next : World = step w e .next in
+      Sized (change w e) → worldOf (put (change w e) (hold (next .bytes ++ drop 16 image))) (next .memory) ≡ next
+
+  by-change : (e : Event) → isBurst e ≡ false → judgesPacket e ≡ false → Stands (λ i. i) e
+  unfolding step
+  by-change e b p z =
+      in-step (change w e) (step w e .next .bytes) image (step w e .next .memory) (sixteen-left image memory e h) h z
+      ∙ ap (λ (held : List ℕ). holding held (step w e .next)) (sym (held-by-change w e b p))
+
+  by-drop : (e : Event) → heldAfter w e ≡ [] → Stands dropped e
+  unfolding step
+  by-drop e d z =
+      dropped-in-step (change w e) (step w e .next .bytes) image (step w e .next .memory) (sixteen-left image memory e h) h z
+      ∙ ap (λ (held : List ℕ). holding held (step w e .next)) (sym d)
+
+  by-burst : (burst : List ℕ) → Stands (added burst) (Burst burst)
+  unfolding step change
+  by-burst burst z =
+      ap (λ (i : List ℕ). worldOf (added burst i) memory) (take-append-drop 16 image) ∙ burst-in-step burst image memory h
+
+  stands : (e : Event) → Stands (holds e) e
+  stands BusReset = by-change BusReset refl refl
+  stands (Control setup host room) = by-change (Control setup host room) refl refl
+  stands (Packet p room) = by-drop (Packet p room) refl
+  stands (Report direction failed amount) = by-change (Report direction failed amount) refl refl
+  stands (StatusRequest room) = by-change (StatusRequest room) refl refl
+  stands (Burst burst) = by-burst burst
+  stands (EndMark room) = by-drop (EndMark room) refl
+
 pub stands-for-it : StandsForIt
 unfolding step
-stands-for-it image memory event room h z =
-    let w : World = worldOf image memory in
-    let e : Event = event (length room) in
-    in-step (change w e) (step w e .next .bytes) image (step w e .next .memory) (sixteen-left image memory e h) h z
+stands-for-it image memory event room h z = stands image memory h (event (length room)) z
 
 -- ---- calls, one after the other
 
-module _ (s : Parts) (c : Call) (h : length (s .0) ≡ 30) where
+holds-length : (e : Event) (image : List ℕ) → length (holds e image) ≡ length image
+holds-length BusReset image = refl
+holds-length (Control setup host room) image = refl
+holds-length (Packet p room) image = length-set image 61 0
+holds-length (Report direction failed amount) image = refl
+holds-length (StatusRequest room) image = refl
+holds-length (Burst burst) image = added-length burst image
+holds-length (EndMark room) image = length-set image 61 0
+
+module _ (s : Parts) (c : Call) (h : length (s .0) ≡ 62) where
   abbrev next : Parts
   next = (calling s c .image, calling s c .memory)
 
-  image-left : length (next .0) ≡ 30
+  image-left : length (next .0) ≡ 62
   image-left =
       let bytes : List ℕ = step (standsFor s) (eventOf c) .next .bytes in
-      put-length (change (standsFor s) (eventOf c)) (bytes ++ drop 16 (s .0))
-      (omega (arith, length-append bytes (drop 16 (s .0)), length-drop 16 (s .0), sixteen-left (s .0) (s .1) (eventOf c) h))
+      put-length (change (standsFor s) (eventOf c)) (holds (eventOf c) (bytes ++ drop 16 (s .0)))
+      (holds-length (eventOf c) (bytes ++ drop 16 (s .0))
+      ∙ omega (arith, length-append bytes (drop 16 (s .0)), length-drop 16 (s .0), sixteen-left (s .0) (s .1) (eventOf c) h))
 
 -- what is left of parts that stand for a world whose numbers have 32 bits
 record Runs (s : Parts) (w : World) (cs : List Call) : Type 0 where
-  image : length (partsAfter s cs .0) ≡ 30
+  image : length (partsAfter s cs .0) ≡ 62
   learnt-so : learns s cs ≡ ruled w cs
   stands-so : standsFor (partsAfter s cs) ≡ after rules w (eventsOf cs)
 
-runs : (s : Parts) (cs : List Call) → length (s .0) ≡ 30 → Numbers (standsFor s .bridge .phase) → AllOfBytes (eventsOf cs) → Runs s (standsFor s) cs
+runs : (s : Parts) (cs : List Call) → length (s .0) ≡ 62 → Measured (standsFor s) → AllOfBytes (eventsOf cs) → Runs s (standsFor s) cs
 runs s [] h n b = record { image = h; learnt-so = refl; stands-so = refl }
 runs s (c ∷ cs) h n b =
     let w : World = standsFor s in
     let e : Event = eventOf c in
     let now : standsFor (next s c h) ≡ step w e .next = stands-for-it (s .0) (s .1) (c .event) (c .room) h (sized w e n (b .0)) in
-    let rest = runs (next s c h) cs (image-left s c h) (subst (λ (v : World). Numbers (v .bridge .phase)) (sym now) (stepped w e n (b .0))) (b .1) in
+    let rest = runs (next s c h) cs (image-left s c h) (subst Measured (sym now) (stepped w e n (b .0))) (b .1) in
     record {
       image = rest .image;
       learnt-so =
@@ -87,7 +136,8 @@ runs s (c ∷ cs) h n b =
 
 since-on : (dock : Dock) (memory : List ℕ) (cs : List Call) → AllOfBytes (eventsOf cs) → Runs (powered dock, memory) (atPowerOn dock memory) cs
 since-on dock memory cs b =
-    subst (λ (w : World). Runs (powered dock, memory) w cs) (powers-on dock memory) (runs (powered dock, memory) cs refl tt b)
+    subst (λ (w : World). Runs (powered dock, memory) w cs) (powers-on dock memory)
+    (runs (powered dock, memory) cs refl (subst Measured (sym (powers-on dock memory)) (measured-on dock memory)) b)
 
 pub from-power-on : FromPowerOn
 from-power-on dock memory cs b = (since-on dock memory cs b .learnt-so, since-on dock memory cs b .stands-so)
@@ -120,6 +170,8 @@ hushed w (Control setup host n) room o s = tt
 hushed w (Packet p n) room o s = (step w (Packet p n) .answer, rw o)
 hushed w (Report direction failed amount) room o s = tt
 hushed w (StatusRequest n) room o s = (step w (StatusRequest n) .answer, rw s)
+hushed w (Burst burst) room o s = tt
+hushed w (EndMark n) room o s = (step w (EndMark n) .answer, rw o)
 
 all-hushed : (w : World) (cs : List Call) → Silent rules w (eventsOf cs) → AllHushed cs (ruled w cs)
 all-hushed w [] s = tt
@@ -129,7 +181,7 @@ pub calls-are-silent : CallsAreSilent
 calls-are-silent dock memory history d since b stop =
     let parts = bytes-split history (d ∷ since) b in
     let before = since-on dock memory history (parts .0) in
-    let numbers = rw (← (before .stands-so)) at (stays-sized dock memory (eventsOf history) (parts .0)) in
+    let numbers = subst Measured (sym (before .stands-so)) (measured (atPowerOn dock memory) (eventsOf history) (measured-on dock memory) (parts .0)) in
     let here = runs (partsSince dock memory history) (d ∷ since) (before .image) numbers (parts .1) in
     let same = here .learnt-so ∙ ap (λ (w : World). ruled w (d ∷ since)) (before .stands-so) in
     subst (AllHushed (d ∷ since)) (sym same)
@@ -140,5 +192,5 @@ calls-resume dock memory history d since b kept all all' stop ends same =
     after-both dock memory history (d ∷ since ++ b ∷ []) all
     ∙ ap (λ (es : List Event). after rules (reached rules dock memory (eventsOf history)) (eventOf d ∷ es)) (events-append since (b ∷ []))
     ∙ resumption dock memory (eventsOf history) (eventOf d) (eventsOf since) (eventOf b) stop ends
-    ∙ ap (after rules (reached rules dock memory (eventsOf history))) (sym same)
-    ∙ sym (after-both dock memory history kept all')
+    ∙ ap (λ (es : List Event). holding [] (after rules (reached rules dock memory (eventsOf history)) es)) (sym same)
+    ∙ ap (holding []) (sym (after-both dock memory history kept all'))

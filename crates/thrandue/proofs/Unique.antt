@@ -8,12 +8,15 @@ use Rattle.thrandue.specs.Calls.{Called}
 use Rattle.thrandue.proofs.«thrandue_power_on» as PowerOn
 use Rattle.thrandue.proofs.«thrandue_bus_reset» as BusReset
 use Rattle.thrandue.proofs.«thrandue_control» as Control
-use Rattle.thrandue.proofs.«thrandue_packet» as Packet
+use Rattle.thrandue.proofs.commands.«thrandue_packet» as Packet
+use Rattle.thrandue.proofs.commands.«thrandue_burst» as Burst
+use Rattle.thrandue.proofs.commands.«thrandue_end_mark» as EndMark
 use Rattle.thrandue.proofs.«thrandue_report» as Report
 use Rattle.thrandue.proofs.«thrandue_status» as Status
 use Rattle.thrandue.proofs.«thrandue_phase» as Phase
 use Rattle.thrandue.proofs.«thrandue_configuration» as Configuration
 use Rattle.thrandue.proofs.«thrandue_halts» as Halts
+use Rattle.thrandue.proofs.«thrandue_held» as Held
 
 abbrev number : Called → ℕ
 number c = c .returned
@@ -34,6 +37,16 @@ pub «thrandue_packet» : OneOutcome Packet.Kinds.ps Packet.Kinds.r Packet.Reads
     let same = only (p []) (q []) in
     (ap number same, ap (λ (c : Called). (c .image, (tt, (c .room, tt)))) same)
 
+pub «thrandue_burst» : OneOutcome Burst.Kinds.ps Burst.Kinds.r Burst.Reads.Post
+«thrandue_burst» κs a r r' left left' p q =
+    let same = only (p []) (q []) in
+    (ap number same, ap (λ (c : Called). (c .image, (tt, tt))) same)
+
+pub «thrandue_end_mark» : OneOutcome EndMark.Kinds.ps EndMark.Kinds.r EndMark.Reads.Post
+«thrandue_end_mark» κs a r r' left left' p q =
+    let same = only (p []) (q []) in
+    (ap number same, ap (λ (c : Called). (c .image, (c .room, tt))) same)
+
 pub «thrandue_report» : OneOutcome Report.Kinds.ps Report.Kinds.r Report.Reads.Post
 «thrandue_report» κs a r r' left left' p q =
     let same = only (p []) (q []) in
@@ -52,3 +65,6 @@ pub «thrandue_configuration» : OneOutcome Configuration.Kinds.ps Configuration
 
 pub «thrandue_halts» : OneOutcome Halts.Kinds.ps Halts.Kinds.r Halts.Reads.Post
 «thrandue_halts» κs a r r' left left' p q = (only p q, refl)
+
+pub «thrandue_held» : OneOutcome Held.Kinds.ps Held.Kinds.r Held.Reads.Post
+«thrandue_held» κs a r r' left left' p q = (only p q, refl)

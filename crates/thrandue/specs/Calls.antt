@@ -2,17 +2,18 @@
 use Prim.Native.Nat.{ℕ, _+_, _*_}
 use mathlib.Core.Path.{_≡_}
 use mathlib.Core.List.{List, _++_}
-use lib.ListN.{drop}
+use lib.ListN.{length, drop}
 use Rattle.rules.specs.declared.Bridge.{Bridge}
 use Rattle.rules.specs.declared.Phase.{Phase}
 use Rattle.rules.specs.declared.Phase.the-variants.{Awaiting, Busy, StatusWaiting, Stopped}
 use Rattle.rules.specs.declared.Stands.{Stands}
 use Rattle.rules.specs.declared.Stands.the-variants.{InRoom, InMemory}
 use Rattle.rules.specs.Words.{one}
+use Rattle.rules.specs.declared.Change.the-variants.{Drops}
 use Rattle.rules.specs.Descriptors.{numberOf as startOf}
-use Rattle.rules.specs.Step.{Event}
+use Rattle.rules.specs.Step.{Event, BusReset, Control, Packet, Report, StatusRequest, Burst, EndMark}
 use Rattle.rules.specs.Promise.{Left, leaves}
-use Rattle.image.specs.Image.{worldOf, put}
+use Rattle.image.specs.Image.{worldOf, put, added}
 
 -- the number that a call returns, the image, the memory, and the lent room
 pub record Called : Type 0 where
@@ -29,14 +30,24 @@ abbrev pub returns : ℕ → ℕ → Stands → ℕ
 returns answer count InRoom = answer + 256 * count
 returns answer count (InMemory at) = answer + 256 * count + 0x100000000 * (0x10000 + startOf at)
 
+-- what an event makes of what is held, in an image, beside what its change does
+abbrev pub holds : Event → List ℕ → List ℕ
+holds BusReset image = image
+holds (Control setup host room) image = image
+holds (Packet p room) image = put Drops image
+holds (Report direction failed amount) image = image
+holds (StatusRequest room) image = image
+holds (Burst bytes) image = added bytes image
+holds (EndMark room) image = put Drops image
+
 -- what an event leaves, in an image: the configuration bytes are written and the change is made, so that a refused call, which writes and changes
--- nothing, leaves it byte for byte
-abbrev pub inImage : List ℕ → Left → Called
-inImage image l = called (returns (l .answer) (l .count) (l .stands)) (put (l .change) (l .bytes ++ drop 16 image)) (l .memory) (l .room)
+-- nothing, leaves it byte for byte, but for what a packet and an end mark drop
+abbrev pub inImage : Event → List ℕ → Left → Called
+inImage e image l = called (returns (l .answer) (l .count) (l .stands)) (put (l .change) (holds e (l .bytes ++ drop 16 image))) (l .memory) (l .room)
 
 -- what a call makes of an image, a memory, an event and the room that is lent to it
 abbrev pub calls : List ℕ → List ℕ → (ℕ → Event) → List ℕ → Called
-calls image memory event room = inImage image (leaves (worldOf image memory) event room)
+calls image memory event room = inImage (event (length room)) image (leaves (worldOf image memory) event room)
 
 -- a call that is lent no memory: with every memory, and it leaves it as it is
 abbrev pub CallTold : List ℕ → (ℕ → Event) → List ℕ → ℕ → List ℕ → List ℕ → Type 0

@@ -6,9 +6,9 @@ use mathlib.Core.List.{List, [], _∷_, _++_}
 use lib.ListN.{length}
 use Rattle.rules.specs.declared.Dock.{Dock}
 use Rattle.rules.specs.declared.Stands.the-variants.{InRoom}
-use Rattle.rules.specs.Held.{World}
+use Rattle.rules.specs.Held.{World, holding}
 use Rattle.rules.specs.Held.{powered as atPowerOn}
-use Rattle.rules.specs.Step.{Event, BusReset, Control, Packet, Report, StatusRequest, change, step, rules, after, reached}
+use Rattle.rules.specs.Step.{Event, BusReset, Control, Packet, Report, StatusRequest, Burst, EndMark, change, step, rules, after, reached}
 use Rattle.rules.specs.Promise.{Left, leaves}
 use Rattle.rules.specs.Demands.Boundary.{Stop, boundary, keptWrites, keptBoundary}
 use Rattle.rules.specs.Demands.Sizes.{AllOfBytes, Sized}
@@ -19,7 +19,7 @@ use Rattle.thrandue.specs.Calls.{Called, returns, calls}
 
 abbrev pub StandsForIt : Type 0
 StandsForIt =
-    (image memory : List ℕ) (event : ℕ → Event) (room : List ℕ) → length image ≡ 30
+    (image memory : List ℕ) (event : ℕ → Event) (room : List ℕ) → length image ≡ 62
     → (let w : World = worldOf image memory in
     let e : Event = event (length room) in
     let c : Called = calls image memory event room in
@@ -79,7 +79,7 @@ ruled w (c ∷ cs) =
     learnt (returns (l .answer) (l .count) (l .stands)) (l .room) ∷ ruled (step w (eventOf c) .next) cs
 
 -- After any calls from power-on, whatever their lengths and contents, the caller has learnt what the rules say, and the image and the memory stand for
--- the world that they leave. That a packet is bytes is what its type says.
+-- the world that they leave. That a packet and a burst are bytes is what their type says.
 abbrev pub FromPowerOn : Type 0
 FromPowerOn =
     (dock : Dock) (memory : List ℕ) (cs : List Call) → AllOfBytes (eventsOf cs)
@@ -88,13 +88,15 @@ FromPowerOn =
 
 -- ---- demand 3, of calls
 
--- a packet or a status request is answered, nothing is handed out, and the room is as it was
+-- a packet, an end mark or a status request is answered, nothing is handed out, and the room is as it was
 abbrev pub Hushed : Event → List ℕ → Learnt → Type 0
 Hushed BusReset room l = Unit {0}
 Hushed (Control setup host n) room l = Unit {0}
 Hushed (Packet p n) room l = (answer : ℕ) × (l ≡ learnt (returns answer 0 InRoom) room)
 Hushed (Report direction failed amount) room l = Unit {0}
 Hushed (StatusRequest n) room l = (answer : ℕ) × (l ≡ learnt (returns answer 0 InRoom) room)
+Hushed (Burst bytes) room l = Unit {0}
+Hushed (EndMark n) room l = (answer : ℕ) × (l ≡ learnt (returns answer 0 InRoom) room)
 
 abbrev pub AllHushed : List Call → List Learnt → Type 0
 AllHushed [] ls = Unit {0}
@@ -109,7 +111,7 @@ CallsAreSilent =
     → AllHushed (d ∷ since) (learns (partsSince dock memory history) (d ∷ since))
 
 -- "After it, the bridge is in the state of one that never received the damaged packet nor anything since, save accepted vendor writes and the
--- bus reset or configuration change, if one was the boundary": `kept` are the calls of these.
+-- bus reset or configuration change, if one was the boundary": `kept` are the calls of these. "The bridge compared with holds no fragments."
 abbrev pub CallsResume : Type 0
 CallsResume =
     (dock : Dock) (memory : List ℕ) (history : List Call) (d : Call) (since : List Call) (b : Call) (kept : List Call)
@@ -119,4 +121,4 @@ CallsResume =
     let last : World = after rules stopped (eventsOf since) in
     boundary rules last (eventOf b) ≡ true
     → eventsOf kept ≡ keptWrites rules stopped (eventsOf since) ++ keptBoundary rules last (eventOf b)
-    → standsFor (partsSince dock memory (history ++ (d ∷ since ++ b ∷ []))) ≡ standsFor (partsSince dock memory (history ++ kept)))
+    → standsFor (partsSince dock memory (history ++ (d ∷ since ++ b ∷ []))) ≡ holding [] (standsFor (partsSince dock memory (history ++ kept))))

@@ -7,9 +7,12 @@ ghost use Rattle.outcomes.specs.Outcomes.{leftBy};
 ghost use Rattle.rules.specs.Held.{world, configuration};
 ghost use Rattle.rules.specs.Promise.{served};
 ghost use Rattle.rules.specs.declared.Stands.the-variants.{InRoom, InMemory};
-ghost use Rattle.rules.specs.Step.{BusReset, Control, Packet, Report, StatusRequest};
-ghost use Rattle.image.specs.Image.{bytesOf, decode, powered, put};
+ghost use Rattle.rules.specs.Step.{BusReset, Control, Report, StatusRequest};
+ghost use Rattle.image.specs.Image.{bytesOf, decode, heldOf, powered, put};
 ghost use Rattle.thrandue.specs.Calls.{called, returns, calls, CallTold, phaseNumber, haltNumber};
+
+mod commands;
+
 use bridge::Outcome;
 use image::IMAGE;
 use requests::Judgement;
@@ -94,19 +97,6 @@ pub extern "C" fn thrandue_control(
 }
 
 #[no_mangle]
-pub extern "C" fn thrandue_packet(
-    image: &mut [u8; IMAGE],
-    packet: &[u8],
-    operations: &mut [u16],
-) -> u32
-    ensures { λ r. ⌜ CallTold (now (image .entry)) (Packet (now (packet .entry))) (now (operations .entry)) r (now (image .exit)) (now (operations .exit)) ⌝ }
-{
-    let b = image::load(image);
-    let signature = image::signature_of(image);
-    leave(image, bridge::packet(b, signature, packet, operations))
-}
-
-#[no_mangle]
 pub extern "C" fn thrandue_report(
     image: &mut [u8; IMAGE],
     direction: u8,
@@ -163,4 +153,13 @@ pub extern "C" fn thrandue_halts(image: &[u8; IMAGE]) -> u8
 {
     let b = image::load(image);
     b.halts.outward as u8 + 2 * b.halts.inward as u8
+}
+
+// How many bytes are held; 32 where they are too many.
+#[no_mangle]
+pub extern "C" fn thrandue_held(image: &[u8; IMAGE]) -> u8
+    ensures { λ r. ⌜ r ≡ length (heldOf (now (image .entry))) ⌝ }
+{
+    let held = image::held(image);
+    held.count as u8
 }

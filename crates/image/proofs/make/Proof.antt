@@ -25,6 +25,21 @@ enum-told-2 c = search needs
 element-write-image-2 : tie.Need-element-write-image-2
 element-write-image-2 c = search needs
 
+enum-told-3 : tie.Need-enum-told-3
+enum-told-3 c = search needs
+
+element-write-image-3 : tie.Need-element-write-image-3
+element-write-image-3 c = search needs
+
+element-write-image-4 : tie.Need-element-write-image-4
+element-write-image-4 c = search needs
+
+enum-told-4 : tie.Need-enum-told-4
+enum-told-4 c = search needs
+
+element-write-image-5 : tie.Need-element-write-image-5
+element-write-image-5 c = search needs
+
 enum-known-change-2 : tie.Need-enum-known-change-2
 enum-known-change-2 c = search needs
 
@@ -52,8 +67,8 @@ put-phase-requires-2 c κs = search needs
 put-halt-requires : tie.Need-put-halt-requires
 put-halt-requires c κs = search needs
 
-enum-told-3 : tie.Need-enum-told-3
-enum-told-3 c = search needs
+enum-told-5 : tie.Need-enum-told-5
+enum-told-5 c = search needs
 
 put-halts-requires : tie.Need-put-halts-requires
 put-halts-requires c κs = search needs
@@ -61,11 +76,14 @@ put-halts-requires c κs = search needs
 put-phase-requires-3 : tie.Need-put-phase-requires-3
 put-phase-requires-3 c κs = search needs
 
-enum-told-4 : tie.Need-enum-told-4
-enum-told-4 c = search needs
+enum-told-6 : tie.Need-enum-told-6
+enum-told-6 c = search needs
 
 put-phase-requires-4 : tie.Need-put-phase-requires-4
 put-phase-requires-4 c κs = search needs
+
+element-write-image-6 : tie.Need-element-write-image-6
+element-write-image-6 c = search needs
 
 enum-known-change-4 : tie.Need-enum-known-change-4
 enum-known-change-4 c = search needs
@@ -73,8 +91,8 @@ enum-known-change-4 c = search needs
 put-halt-requires-2 : tie.Need-put-halt-requires-2
 put-halt-requires-2 c κs = search needs
 
-enum-told-5 : tie.Need-enum-told-5
-enum-told-5 c = search needs
+enum-told-7 : tie.Need-enum-told-7
+enum-told-7 c = search needs
 
 put-calm-requires-2 : tie.Need-put-calm-requires-2
 put-calm-requires-2 c κs = search needs
@@ -89,25 +107,31 @@ returns-3 : tie.Need-returns-3
 returns-3 c = rw (c .enum-told2 .given .1)
 
 returns-4 : tie.Need-returns-4
-returns-4 c = rw (c .before .before .before .before .before .before .change2 .given .1, c .put-phase .ensures, c .before .before .before .put-numbers .ensures, bool-byte, c .before .is-in .ensures)
+returns-4 c = rw (c .enum-told3 .given .1)
 
 returns-5 : tie.Need-returns-5
-returns-5 c = rw (c .before .before .before .before .before .before .before .before .change3 .given .1, c .before .before .if1 .taken, c .put-halt .ensures, c .before .before .before .put-phase2 .ensures, c .before .before .before .before .before .put-numbers2 .ensures)
+returns-5 c = rw (c .enum-told4 .given .1)
 
 returns-6 : tie.Need-returns-6
-returns-6 c = rw (c .before .before .before .before .before .before .change3 .given .1, c .if1 .left, c .before .put-phase2 .ensures, c .before .before .before .put-numbers2 .ensures)
+returns-6 c = rw (c .before .before .before .before .before .before .change2 .given .1, c .put-phase .ensures, c .before .before .before .put-numbers .ensures, bool-byte, c .before .is-in .ensures)
 
 returns-7 : tie.Need-returns-7
-returns-7 c = rw (c .before .before .before .before .enum-told3 .given .1, c .put-phase3 .ensures, c .before .before .put-halts .ensures)
+returns-7 c = rw (c .before .before .before .before .before .before .before .before .change3 .given .1, c .before .before .if1 .taken, c .put-halt .ensures, c .before .before .before .put-phase2 .ensures, c .before .before .before .before .before .put-numbers2 .ensures)
 
 returns-8 : tie.Need-returns-8
-returns-8 c = rw (c .before .before .enum-told4 .given .1) (c .put-phase4 .ensures)
+returns-8 c = rw (c .before .before .before .before .before .before .change3 .given .1, c .if1 .left, c .before .put-phase2 .ensures, c .before .before .before .put-numbers2 .ensures)
 
 returns-9 : tie.Need-returns-9
-returns-9 c = rw (c .before .before .before .change4 .given .1) (c .put-halt2 .ensures)
+returns-9 c = rw (c .before .before .before .before .enum-told5 .given .1, c .put-phase3 .ensures, c .before .before .put-halts .ensures)
 
 returns-10 : tie.Need-returns-10
-returns-10 c = rw (c .before .before .enum-told5 .given .1) (c .put-calm2 .ensures)
+returns-10 c = rw (c .before .before .enum-told6 .given .1, c .put-phase4 .ensures)
+
+returns-11 : tie.Need-returns-11
+returns-11 c = rw (c .before .before .before .change4 .given .1) (c .put-halt2 .ensures)
+
+returns-12 : tie.Need-returns-12
+returns-12 c = rw (c .before .before .enum-told7 .given .1) (c .put-calm2 .ensures)
 
 pub make-spec : {M : Type 1} → statement M
 make-spec =
@@ -120,6 +144,11 @@ make-spec =
     put-calm-requires
     enum-told-2
     element-write-image-2
+    enum-told-3
+    element-write-image-3
+    element-write-image-4
+    enum-told-4
+    element-write-image-5
     enum-known-change-2
     put-numbers-requires
     is-in-requires
@@ -129,14 +158,15 @@ make-spec =
     put-numbers-requires-2
     put-phase-requires-2
     put-halt-requires
-    enum-told-3
+    enum-told-5
     put-halts-requires
     put-phase-requires-3
-    enum-told-4
+    enum-told-6
     put-phase-requires-4
+    element-write-image-6
     enum-known-change-4
     put-halt-requires-2
-    enum-told-5
+    enum-told-7
     put-calm-requires-2
     returns
     returns-2
@@ -147,4 +177,6 @@ make-spec =
     returns-7
     returns-8
     returns-9
-    returns-10)
+    returns-10
+    returns-11
+    returns-12)

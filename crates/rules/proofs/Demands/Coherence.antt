@@ -9,7 +9,7 @@ use lib.Dec.{eqb, ltb}
 use borrow.Author.Tests.{eqb-true, ltb-true, le-ltb, not-true}
 use Rattle.rules.specs.declared.Bridge.{Bridge}
 use Rattle.rules.specs.declared.Change.{Change}
-use Rattle.rules.specs.declared.Change.the-variants.{Nothing, Sets, Awaits, Begins, Finishes, Stops, Notes, Clears, Ends}
+use Rattle.rules.specs.declared.Change.the-variants.{Nothing, Sets, Awaits, Resets, Drops, Begins, Finishes, Stops, Notes, Clears, Ends}
 use Rattle.rules.specs.declared.CommandPacket.{CommandPacket}
 use Rattle.rules.specs.declared.Direction.the-variants.{Out, In}
 use Rattle.rules.specs.declared.Phase.{Phase}
@@ -17,14 +17,14 @@ use Rattle.rules.specs.declared.Phase.the-variants.{Awaiting, Busy, Stat
 use Rattle.rules.specs.declared.Request.the-variants.{LoadConfigData}
 use Rattle.rules.specs.declared.Setup.{Setup}
 use Rattle.rules.specs.Words.{one, Check, first}
-use Rattle.rules.specs.Held.{World, world, powered, configuration, isStopped}
-use Rattle.rules.specs.Changes.{made}
+use Rattle.rules.specs.Held.{World, world, holding, powered, configuration, isStopped}
+use Rattle.rules.specs.Changes.{made, drops}
 use Rattle.rules.specs.Stopping.{clears, clearFeature, massStorageReset, softReset}
 use Rattle.rules.specs.Requests.{Named, table, address, setupOf, requestOf, isA, changeBy, bytesAfter, memoryAfter}
 use Rattle.rules.specs.Packets.{commandOf, signatureOf, recognises, commandTaken}
 use Rattle.rules.specs.Reports.{reportTaken}
 use Rattle.rules.specs.Answers.{seenOf, requestAnswer, packetChecks, packetAnswer, reportAnswer, statusChecks, statusAnswer}
-use Rattle.rules.specs.Step.{operationsFor, Event, BusReset, Control, Packet, Report, StatusRequest, answer, done, damaged, changeDone, change, step, rules, after}
+use Rattle.rules.specs.Step.{operationsFor, Event, BusReset, Control, Packet, Report, StatusRequest, Burst, EndMark, answer, done, damaged, changeDone, change, step, rules, after}
 use Rattle.rules.specs.Demands.Refusals.{damages}
 use Rattle.rules.specs.Demands.Requests.{wire, asking}
 use Rattle.rules.specs.Demands.Coherence.{Replies, setsTo, configured, ConfigurationIsTold, BusResetIsPowerOn, DockIsFixed, ConfigurationRestarts, PowerOnIsRead, HaltsAreTold, DamageHalts, ClearClears, ResetsAgree, HandsOutItsOwn, AskingChangesNothing, WritingKeepsBridge, StatusKeeps, ZerosAreTold}
@@ -41,6 +41,8 @@ abbrev Unset : Change → Type 0
 Unset Nothing = Unit {0}
 Unset (Sets c) = ⊥
 Unset Awaits = Unit {0}
+Unset Resets = Unit {0}
+Unset Drops = Unit {0}
 Unset (Begins direction tag l) = Unit {0}
 Unset (Finishes direction halts status tag residue) = Unit {0}
 Unset Stops = Unit {0}
@@ -52,6 +54,8 @@ kept : (c : Change) (b : Bridge) → Unset c → made c b .configured ≡ b .con
 kept Nothing b u = refl
 kept (Sets c) b u = absurd u
 kept Awaits b u = refl
+kept Resets b u = refl
+kept Drops b u = refl
 kept (Begins direction tag l) b u = refl
 kept (Finishes Out halts status tag residue) b u = refl
 kept (Finishes In halts status tag residue) b u = refl
@@ -82,10 +86,10 @@ request-sets setup b =
     also (λ h. rw (h .kind) (held (clearFeature (s .index) b) (feature Unset tt (λ d. tt) tt (s .index) b)))
     also (λ h. rw (h .kind))
     also (λ h. rw (h .kind))
-    also (λ h. rw (h .kind) (held (massStorageReset (b .phase)) (either Unset (isStopped (b .phase)) Notes Awaits tt tt)))
+    also (λ h. rw (h .kind) (held (massStorageReset (b .phase)) (either Unset (isStopped (b .phase)) Notes Resets tt tt)))
     also (λ h. rw (h .kind))
     also (λ h. rw (h .kind))
-    also (λ h. rw (h .kind) (held (softReset (b .phase)) (either Unset (isStopped (b .phase)) Nothing Awaits tt tt)))
+    also (λ h. rw (h .kind) (held (softReset (b .phase)) (either Unset (isStopped (b .phase)) Drops Resets tt tt)))
     also (λ h. rw (h .kind))
     also (λ h. rw (h .kind))
     also tt
@@ -140,6 +144,8 @@ event-sets w (Packet p room) = event-keeps w (Packet p room) (command-unset (rec
 event-sets w (Report direction failed amount) =
     event-keeps w (Report direction failed amount) (report-unset direction failed amount (w .bridge .phase)) refl
 event-sets w (StatusRequest room) = event-keeps w (StatusRequest room) tt refl
+event-sets w (Burst bytes) = event-keeps w (Burst bytes) tt refl
+event-sets w (EndMark room) = event-keeps w (EndMark room) (command-unset (recognises (signatureOf (w .bytes)) (w .held)) (commandOf (w .held))) refl
 
 run-sets : (w : World) (history : List Event) → configuration (after rules w history .bridge) ≡ configured rules w history (configuration (w .bridge))
 run-sets w [] = refl
@@ -163,6 +169,8 @@ fixed : (c : Change) (b : Bridge) → made c b .dock ≡ b .dock
 fixed Nothing b = refl
 fixed (Sets c) b = refl
 fixed Awaits b = refl
+fixed Resets b = refl
+fixed Drops b = refl
 fixed (Begins direction tag l) b = refl
 fixed (Finishes Out halts status tag residue) b = refl
 fixed (Finishes In halts status tag residue) b = refl
@@ -259,6 +267,8 @@ hands-out-its-own w (Control setup host room) = rw none-given
 hands-out-its-own w (Packet p room) = rw none-given
 hands-out-its-own w (Report direction failed amount) = (rw none-given, rw none-given)
 hands-out-its-own w (StatusRequest room) = rw none-given
+hands-out-its-own w (Burst bytes) = (refl, refl)
+hands-out-its-own w (EndMark room) = rw none-given
 
 pub writing-keeps-bridge : WritingKeepsBridge rules
 unfolding step change requestOf
@@ -308,8 +318,9 @@ asking-changes-nothing w setup host room h = rw request-undamaged (go (done n) r
     s = setupOf setup
 
     go : (t : Bool) → done n ≡ t
-        → world (made (cond t (changeBy (requestOf s) s (w .bridge)) Nothing) (w .bridge)) (cond t (bytesAfter (requestOf s) s host (w .bytes)) (w .bytes))
-        (cond t (memoryAfter (requestOf s) s host (w .memory)) (w .memory))
+        → holding (cond (drops (cond t (changeBy (requestOf s) s (w .bridge)) Nothing)) [] (w .held))
+        (world (made (cond t (changeBy (requestOf s) s (w .bridge)) Nothing) (w .bridge)) (cond t (bytesAfter (requestOf s) s host (w .bytes)) (w .bytes))
+        (cond t (memoryAfter (requestOf s) s host (w .memory)) (w .memory)))
         ≡ w
     go true e =
         let k = request-passed (seenOf w) (w .memory) setup (length host) room (eqb-true n 0 e) in

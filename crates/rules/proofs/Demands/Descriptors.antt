@@ -19,7 +19,7 @@ use Rattle.rules.specs.Descriptors.{addressOf, numberOf, firstString, an
 use Rattle.rules.specs.Descriptors.{index as numbered, at}
 use Rattle.rules.specs.Requests.{Named, Unknown, Known, Describes, setupOf, requestOf, describes, replyTo, standing, memoryAfter}
 use Rattle.rules.specs.Answers.{seenOf, dataChecks, requestAnswer}
-use Rattle.rules.specs.Step.{BusReset, Control, Packet, Report, StatusRequest, Outcome, done, given, step, rules}
+use Rattle.rules.specs.Step.{BusReset, Control, Packet, Report, StatusRequest, Burst, EndMark, Outcome, done, given, step, rules}
 use Rattle.rules.specs.Demands.Requests.{wire}
 use Rattle.rules.specs.Demands.Descriptors.{wanting, part, Place, device, qualifier, busPowered, selfPowered, string, stringZero, head, says, Headed, Search, noMemory, noPlace, headCut, noHead, cut, there, DescriptorIsSought, DescriptorIsTold, FirstStringIsNamed, NothingElseEnters, wants, OnlyDescriptorsStand, WhatStandsIsThere}
 use Rattle.rules.proofs.Checks.{first-append, passed, request-has, request-passed}
@@ -276,6 +276,8 @@ only-descriptors-stand w (Control setup host room) h =
 only-descriptors-stand w (Packet p room) h = refl
 only-descriptors-stand w (Report direction failed amount) h = refl
 only-descriptors-stand w (StatusRequest room) h = refl
+only-descriptors-stand w (Burst bytes) h = refl
+only-descriptors-stand w (EndMark room) h = refl
 
 -- a reply that stands in a memory from a place on
 abbrev There : ℕ → List ℕ → List ℕ → Type 0
@@ -320,3 +322,5 @@ what-stands-is-there w (Control setup host room) place h = go (done n) refl (req
 what-stands-is-there w (Packet p room) place h = stands-in-room h
 what-stands-is-there w (Report direction failed amount) place h = stands-in-room h
 what-stands-is-there w (StatusRequest room) place h = stands-in-room h
+what-stands-is-there w (Burst bytes) place h = stands-in-room h
+what-stands-is-there w (EndMark room) place h = stands-in-room h

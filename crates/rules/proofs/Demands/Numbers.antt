@@ -12,7 +12,7 @@ use Rattle.rules.specs.Words.{Check, byte, word, first}
 use Rattle.rules.specs.Held.{World, isAwaiting, isBusy, isStatusWaiting}
 use Rattle.rules.specs.Requests.{Named, setupOf, requestOf, isUnknown, hasPlace, inBytes, inMemory, needsConfiguration, sent}
 use Rattle.rules.specs.Answers.{seenOf, requestChecks, requestAnswer, packetChecks, packetAnswer, reportChecks, reportAnswer, statusChecks, statusAnswer}
-use Rattle.rules.specs.Step.{BusReset, Control, Packet, Report, StatusRequest, step, rules}
+use Rattle.rules.specs.Step.{BusReset, Control, Packet, Report, StatusRequest, Burst, EndMark, packetAnswers, step, rules}
 use Rattle.rules.specs.Demands.Makers.{Asks}
 use Rattle.rules.specs.Demands.Numbers.{RequestNumbers, FourIsUnconfigured, SixteenIsNoTurn}
 use Rattle.rules.proofs.Checks.{decides, sole}
@@ -67,19 +67,25 @@ request-numbers w setup host room = (
   two w setup host room,
 )
 
+packet-four : (w : World) (p : List ℕ) (room : ℕ) → packetAnswers w p room ≡ 4 → w .bridge .configured ≡ false
+unfolding packetAnswer
+packet-four w p room a =
+    let checks = packetChecks (w .bridge) p (needs w p) room in
+    not-true (w .bridge .configured) (sole 4 (not (w .bridge .configured)) (drop 1 checks) refl (decides 4 checks a))
+
 pub four-is-unconfigured : FourIsUnconfigured rules
 unfolding step requestAnswer packetAnswer reportAnswer statusAnswer
 four-is-unconfigured w BusReset a = absurd (omega arith)
 four-is-unconfigured w (Control setup host room) a = four w setup host room a .1
-four-is-unconfigured w (Packet p room) a =
-    let checks = packetChecks (w .bridge) p (needs w p) room in
-    not-true (w .bridge .configured) (sole 4 (not (w .bridge .configured)) (drop 1 checks) refl (decides 4 checks a))
+four-is-unconfigured w (Packet p room) a = packet-four w p room a
 four-is-unconfigured w (Report direction failed amount) a =
     let checks = reportChecks (w .bridge) direction failed amount in
     not-true (w .bridge .configured) (sole 4 (not (w .bridge .configured)) (drop 1 checks) refl (decides 4 checks a))
 four-is-unconfigured w (StatusRequest room) a =
     let checks = statusChecks (w .bridge) room in
     not-true (w .bridge .configured) (sole 4 (not (w .bridge .configured)) (drop 1 checks) refl (decides 4 checks a))
+four-is-unconfigured w (Burst bytes) a = absurd (omega arith)
+four-is-unconfigured w (EndMark room) a = packet-four w (w .held) room a
 
 -- the phase that 16 tells of, event by event
 packet-phase : (w : World) (p : List ℕ) (room : ℕ) → step w (Packet p room) .answer ≡ 16 → isAwaiting (w .bridge .phase) ≡ false

@@ -15,7 +15,7 @@ use Rattle.rules.specs.Words.{byte, word, over}
 use Rattle.rules.specs.Held.{World, sizeOf}
 use Rattle.rules.specs.Requests.{Known, setupOf, requestOf, needsConfiguration, inBytes, inMemory, address, isA, storeOf}
 use Rattle.rules.specs.Answers.{seenOf, requestAnswer, packetAnswer, reportAnswer, statusAnswer}
-use Rattle.rules.specs.Step.{Event, BusReset, Control, Packet, Report, StatusRequest, answer, bytesDone, memoryDone, done, change, step, rules}
+use Rattle.rules.specs.Step.{Event, BusReset, Control, Packet, Report, StatusRequest, Burst, EndMark, answer, bytesDone, memoryDone, done, change, step, rules}
 use Rattle.rules.specs.Demands.Requests.{WholeFields, Unconfigured, Holds, ExactWrites, NoOtherWrites, ExactReads}
 use Rattle.rules.proofs.Checks.{request-has, accepted-write}
 use Rattle.rules.proofs.Rows.{over-pastes}
@@ -39,6 +39,8 @@ unconfigured w (Control setup host room) c g = rw (c, eq-eqb _ _ (g .0), needs (
 unconfigured w (Packet p room) c g = rw c
 unconfigured w (Report direction failed amount) c g = rw c
 unconfigured w (StatusRequest room) c g = rw c
+unconfigured w (Burst bytes) c g = absurd g
+unconfigured w (EndMark room) c g = rw c
 
 -- ---- exact writes
 
@@ -143,6 +145,8 @@ no-other-writes w (Control setup host room) h =
 no-other-writes w (Packet p room) h = untouched w (Packet p room) refl refl
 no-other-writes w (Report direction failed amount) h = untouched w (Report direction failed amount) refl refl
 no-other-writes w (StatusRequest room) h = untouched w (StatusRequest room) refl refl
+no-other-writes w (Burst bytes) h = untouched w (Burst bytes) refl refl
+no-other-writes w (EndMark room) h = untouched w (EndMark room) refl refl
 
 -- ---- exact reads
 

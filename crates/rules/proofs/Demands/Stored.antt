@@ -9,7 +9,7 @@ use lib.ListN.{length, take, drop}
 use lib.Dec.{eqb, leb, ltb}
 use borrow.Author.Tests.{ltb-true, eqb-true, leb-true, eq-eqb, ne-eqb, lt-ltb, le-ltb, le-leb, not-false}
 use Rattle.rules.specs.Words.{over}
-use Rattle.rules.specs.Held.{World, world, sizeOf}
+use Rattle.rules.specs.Held.{World, world, holding, sizeOf}
 use Rattle.rules.specs.Requests.{requestOf, inBytes, inMemory, address, atEight, onePage, storeOf}
 use Rattle.rules.specs.Answers.{seenOf, requestAnswer}
 use Rattle.rules.specs.Step.{Control, change, step, rules}
@@ -85,8 +85,9 @@ record Wrote (w : World) (place start : ℕ) (host : List ℕ) (room : ℕ) : Ty
   eight : (inMemory place && not (atEight start)) ≡ false
   page : (inMemory place && not (onePage start (length host))) ≡ false
   next : step w (Control (wire 0x40 0x01 place start (length host)) host room) .next
-      ≡ world (w .bridge) (cond (not (inMemory place)) (over (w .bytes) start host) (w .bytes))
-      (cond (inMemory place) (over (w .memory) start host) (w .memory))
+      ≡ holding (w .held)
+      (world (w .bridge) (cond (not (inMemory place)) (over (w .bytes) start host) (w .bytes))
+      (cond (inMemory place) (over (w .memory) start host) (w .memory)))
 
 wrote : (w : World) (place start : ℕ) (host : List ℕ) (room : ℕ)
     → step w (Control (wire 0x40 0x01 place start (length host)) host room) .answer ≡ 0 → Wrote w place start host room
@@ -131,14 +132,14 @@ written-is-read w place start host room sixteen a = rw (k .next) (go (inMemory p
 
     go : (t : Bool) → inMemory place ≡ t
         → (let next = world (w .bridge) (cond (not t) (over (w .bytes) start host) (w .bytes)) (cond t (over (w .memory) start host) (w .memory)) in
-        Replies (step next (asking 0xC0 0x02 place start (length host))) host)
+        Replies (step (holding (w .held) next) (asking 0xC0 0x02 place start (length host))) host)
     go true e =
-        let next : World = world (w .bridge) (w .bytes) (over (w .memory) start host) in
+        let next : World = holding (w .held) (world (w .bridge) (w .bytes) (over (w .memory) start host)) in
         let long : length (over (w .memory) start host) ≡ length (w .memory) = over-length (w .memory) start host in
         let r = reads next place start (length host) (k .configured) (k .placed) (rw long (k .fitted)) (rw long right) in
         (r .0, r .1 ∙ rw e (over-read (w .memory) start host (rw e at fits)))
     go false e =
-        let next : World = world (w .bridge) (over (w .bytes) start host) (w .memory) in
+        let next : World = holding (w .held) (world (w .bridge) (over (w .bytes) start host) (w .memory)) in
         let r = reads next place start (length host) (k .configured) (k .placed) (k .fitted) right in
         (r .0, r .1 ∙ rw e (over-read (w .bytes) start host (rw e at fits)))
 

@@ -1,7 +1,7 @@
 -- After any history the bridge is well-formed.
 use mathlib.Core.Path.{_≡_, refl, _∙_}
 use mathlib.Core.Bool.{Bool, true, false, cond, not, _&&_, _||_, true≢false, and-eq-true-iff}
-use mathlib.Core.List.{List, [], _∷_}
+use mathlib.Core.List.{List, [], _∷_, _++_}
 use Prim.Native.Nat.{ℕ, zero, suc, _≤_}
 use native.Mathlib.Omega.{arith}
 use lib.ListN.{length}
@@ -19,14 +19,15 @@ use Rattle.rules.specs.declared.Request.the-variants.{SetConfiguration, 
 use Rattle.rules.specs.declared.Setup.{Setup}
 use Rattle.rules.specs.Words.{over}
 use Rattle.rules.specs.Held.{World, world, powered, powerOnBytes, bulkOut, inPhase, halted, halting}
-use Rattle.rules.specs.Changes.{made}
+use Rattle.rules.specs.Changes.{made, drops}
 use Rattle.rules.specs.Packets.{commandOf, directionOf, signatureOf, recognises, commandTaken}
 use Rattle.rules.specs.Reports.{malformed, mismatch, statusOf, residueOf, haltsPipe, reportTaken}
 use Rattle.rules.specs.Stopping.{clearsPipe, massStorageReset, softReset}
 use Rattle.rules.specs.Requests.{Named, Unknown, Known, Describes, setupOf, requestOf, inMemory, changeBy, bytesAfter, memoryAfter}
 use Rattle.rules.specs.Answers.{reportChecks, reportAnswer}
-use Rattle.rules.specs.Step.{Event, BusReset, Control, Packet, Report, StatusRequest, change, step, rules, after, answer, done, damaged, changeDone, bytesDone, memoryDone}
+use Rattle.rules.specs.Step.{Event, BusReset, Control, Packet, Report, StatusRequest, Burst, EndMark, packetChanges, change, heldAfter, step, rules, after, answer, done, damaged, changeDone, bytesDone, memoryDone}
 use Rattle.rules.specs.Demands.WellFormed.{Bytes, Proper, ProperAll, sound, WellFormed, StaysWellFormed}
+use Rattle.rules.proofs.Bursts.{held-length}
 use Rattle.rules.proofs.Checks.{passed}
 use Rattle.rules.proofs.Rows.{over-length}
 
@@ -43,12 +44,18 @@ bytes-over [] (suc at) xs h k j = h j
 bytes-over (r ∷ row) (suc at) xs h k zero = h zero
 bytes-over (r ∷ row) (suc at) xs h k (suc j) = bytes-over row at xs (λ i. h (suc i)) k j
 
+-- one behind another
+pub bytes-append : (s t : List ℕ) → Bytes s → Bytes t → Bytes (s ++ t)
+bytes-append [] t h k j = k j
+bytes-append (b ∷ s) t h k zero = h zero
+bytes-append (b ∷ s) t h k (suc j) = bytes-append s t (λ i. h (suc i)) k j
+
 -- numbers that pass the test
 abbrev below256 : List ℕ → Bool
 below256 [] = true
 below256 (b ∷ s) = ltb b 256 && below256 s
 
-bytes-tested : (s : List ℕ) → below256 s ≡ true → Bytes s
+pub bytes-tested : (s : List ℕ) → below256 s ≡ true → Bytes s
 bytes-tested [] h k = omega arith
 bytes-tested (b ∷ s) h zero = ltb-true b 256 (and-eq-true-iff _ _ .0 h .0)
 bytes-tested (b ∷ s) h (suc k) = bytes-tested s (and-eq-true-iff (ltb b 256) _ .0 h .1) k
@@ -131,12 +138,15 @@ module _ (w : World) (g : WellFormed w) where
 
   -- whatever keeps the bytes of both places and leaves a sound bridge
   keeps : (next : Bridge) → Sound next → WellFormed (world next (w .bytes) (w .memory))
-  keeps next s = record { sixteen = g .sixteen; bytes = g .bytes; memory = g .memory; phase = s }
+  keeps next s = record { sixteen = g .sixteen; bytes = g .bytes; memory = g .memory; phase = s; held = omega arith }
 
   -- a command, by whether its block is recognised
   command : (t : Bool) (c : CommandPacket) → Sound (made (commandTaken t c) b)
   command true c = sound-busy (c .tag) (c .length) (ltb 0 (c .length)) (eqb (c .flags) 0x80) (b .halts) refl
   command false c = sound-status (ltb 0 (c .length)) (directionOf c) b (c .tag) (c .length) 1 refl
+
+  packet : (p : List ℕ) → Sound (made (packetChanges w p) b)
+  packet p = command (recognises (signatureOf (w .bytes)) p) (commandOf p)
 
   -- a report, by the phase that it meets
   report : (direction failed amount : ℕ) (p : Phase) → failed ≤ 1 → Sound (made (reportTaken direction failed amount p) b)
@@ -156,40 +166,43 @@ module _ (w : World) (g : WellFormed w) where
   write : (start : ℕ) (host : List ℕ) → Bytes host → (t : Bool)
       → WellFormed (world b (cond (not t) (over (w .bytes) start host) (w .bytes)) (cond t (over (w .memory) start host) (w .memory)))
   write start host h true =
-      record { sixteen = g .sixteen; bytes = g .bytes; memory = bytes-over (w .memory) start host (g .memory) h; phase = g .phase }
+      record { sixteen = g .sixteen; bytes = g .bytes; memory = bytes-over (w .memory) start host (g .memory) h; phase = g .phase; held = omega arith }
   write start host h false =
       record {
         sixteen = over-length (w .bytes) start host ∙ g .sixteen;
         bytes = bytes-over (w .bytes) start host (g .bytes) h;
         memory = g .memory;
         phase = g .phase;
+        held = omega arith;
       }
 
   request : (r : Named) (s : Setup) (host : List ℕ) → Bytes host
       → WellFormed (world (made (changeBy r s b) b) (bytesAfter r s host (w .bytes)) (memoryAfter r s host (w .memory)))
   request (Known SetConfiguration) s host h = keeps _ refl
-  request (Known GetConfiguration) s host h = g
+  request (Known GetConfiguration) s host h = keeps b (g .phase)
   request (Known ClearFeature) s host h = keeps _ (clear (eqb (s .index) bulkOut))
-  request (Known GetStatus) s host h = g
-  request (Known GetMaxLun) s host h = g
+  request (Known GetStatus) s host h = keeps b (g .phase)
+  request (Known GetMaxLun) s host h = keeps b (g .phase)
   request (Known MassStorageReset) s host h =
       keeps _ (sound-reset b (b .phase) (b .halts .outward) (b .halts .inward) (g .phase))
   request (Known LoadConfigData) s host h = write (s .index) host h (inMemory (s .value))
-  request (Known ReadConfigData) s host h = g
+  request (Known ReadConfigData) s host h = keeps b (g .phase)
   request (Known SoftReset) s host h = keeps _ (sound-soft b (b .phase) (b .halts .outward) (b .halts .inward) (g .phase))
-  request (Known BogusRead) s host h = g
-  request Describes s host h = g
-  request Unknown s host h = g
+  request (Known BogusRead) s host h = keeps b (g .phase)
+  request Describes s host h = keeps b (g .phase)
+  request Unknown s host h = keeps b (g .phase)
 
   -- an event that is answered 0
   taken : (e : Event) → Proper e → done (answer w e) ≡ true
       → WellFormed (world (made (changeDone w e) b) (bytesDone (w .bytes) e) (memoryDone (w .memory) e))
   taken BusReset h z = keeps _ refl
   taken (Control setup host room) h z = request (requestOf (setupOf setup)) (setupOf setup) host h
-  taken (Packet p room) h z = keeps _ (command (recognises (signatureOf (w .bytes)) p) (commandOf p))
+  taken (Packet p room) h z = keeps _ (packet p)
   taken (Report direction failed amount) h z =
       keeps _ (report direction failed amount (b .phase) (report-failed b direction failed amount (eqb-true _ 0 z)))
   taken (StatusRequest room) h z = keeps _ refl
+  taken (Burst burst) h z = keeps b (g .phase)
+  taken (EndMark room) h z = keeps _ (packet (w .held))
 
   -- an event, by whether it is answered 0 and whether its answer stops the bridge
   left : (e : Event) (t d : Bool) → (t ≡ true → WellFormed (world (made (changeDone w e) b) (bytesDone (w .bytes) e) (memoryDone (w .memory) e)))
@@ -199,11 +212,27 @@ module _ (w : World) (g : WellFormed w) where
       (cond t (memoryDone (w .memory) e) (w .memory)))
   left e true d f = f refl
   left e false true f = keeps _ refl
-  left e false false f = g
+  left e false false f = keeps b (g .phase)
+
+  -- what is held, kept, dropped or added to
+  holds : (e : Event) → length (heldAfter w e) ≤ 32
+  holds BusReset = omega arith
+  holds (Control setup host room) = go (drops (change w (Control setup host room)))
+    where
+      go : (t : Bool) → length (cond t [] (w .held)) ≤ 32
+      go true = omega arith
+      go false = g .held
+  holds (Packet p room) = omega arith
+  holds (Report direction failed amount) = g .held
+  holds (StatusRequest room) = g .held
+  holds (Burst burst) = held-length (w .held ++ burst)
+  holds (EndMark room) = omega arith
 
   stepped : (e : Event) → Proper e → WellFormed (step w e .next)
   unfolding step change
-  stepped e h = left e (done (answer w e)) (damaged (answer w e)) (taken e h)
+  stepped e h =
+      let k = left e (done (answer w e)) (damaged (answer w e)) (taken e h) in
+      record { sixteen = k .sixteen; bytes = k .bytes; memory = k .memory; phase = k .phase; held = holds e }
 
 -- ---- any history
 
@@ -213,4 +242,4 @@ run w (e ∷ es) g h = run (step w e .next) es (stepped w g e (h .0)) (h .1)
 
 pub stays-well-formed : StaysWellFormed rules
 stays-well-formed dock memory history m h =
-    run (powered dock memory) history (record { sixteen = refl; bytes = bytes-tested powerOnBytes refl; memory = m; phase = refl }) h
+    run (powered dock memory) history (record { sixteen = refl; bytes = bytes-tested powerOnBytes refl; memory = m; phase = refl; held = omega arith }) h

@@ -8,11 +8,11 @@ use Rattle.rules.specs.declared.Request.{Request}
 use Rattle.rules.specs.declared.Request.the-variants.{SetConfiguration, ClearFeature, MassStorageReset, LoadConfigData}
 use Rattle.rules.specs.declared.Phase.the-variants.{Awaiting, Stopped}
 use Rattle.rules.specs.Words.{byte}
-use Rattle.rules.specs.Held.{World, world, bulkOut, bulkIn, inPhase, halted}
+use Rattle.rules.specs.Held.{World, world, holding, bulkOut, bulkIn, inPhase, halted}
 use Rattle.rules.specs.Requests.{Named, Unknown, setupOf, requestOf, isA}
 use Rattle.rules.specs.Demands.Refusals.{damages as isDamage}
 use Rattle.rules.specs.Demands.Requests.{ordering}
-use Rattle.rules.specs.Step.{Event, BusReset, Control, Packet, Report, StatusRequest, Outcome, Machine, after, reached, done}
+use Rattle.rules.specs.Step.{Event, BusReset, Control, Packet, Report, StatusRequest, Burst, EndMark, Outcome, Machine, after, reached, done}
 
 -- "the bridge is configured and awaits a command, with neither bulk pipe halted"
 pub record Ready (w : World) : Type 0 where
@@ -28,6 +28,8 @@ requestIn (Control setup host room) = requestOf (setupOf setup)
 requestIn (Packet p room) = Unknown
 requestIn (Report direction failed amount) = Unknown
 requestIn (StatusRequest room) = Unknown
+requestIn (Burst bytes) = Unknown
+requestIn (EndMark room) = Unknown
 
 abbrev pub isBusReset : Event → Bool
 isBusReset BusReset = true
@@ -35,6 +37,8 @@ isBusReset (Control setup host room) = false
 isBusReset (Packet p room) = false
 isBusReset (Report direction failed amount) = false
 isBusReset (StatusRequest room) = false
+isBusReset (Burst bytes) = false
+isBusReset (EndMark room) = false
 
 -- an accepted request of one kind
 abbrev pub accepts : (m : Machine) → Request → m .State → Event → Bool
@@ -74,6 +78,8 @@ statusIn (Control setup host room) o = []
 statusIn (Packet p room) o = []
 statusIn (Report direction failed amount) o = []
 statusIn (StatusRequest room) o = o .reply
+statusIn (Burst bytes) o = []
+statusIn (EndMark room) o = []
 
 -- "no register operation and no status packet is handed out", at any of the events from s on
 abbrev pub Silent : (m : Machine) → m .State → List Event → Type 0
@@ -93,7 +99,7 @@ Silence m =
     → Silent m (reached m dock memory history) (d ∷ since)
 
 -- "After it, the bridge is in the state of one that never received the damaged packet nor anything since, save accepted vendor writes and the
--- bus reset or configuration change, if one was the boundary."
+-- bus reset or configuration change, if one was the boundary." "The bridge compared with holds no fragments."
 abbrev pub Resumption : Machine → Type 0
 Resumption m =
     (dock : Dock) (memory : List ℕ) (history : List Event) (d : Event) (since : List Event) (b : Event) → Stop m dock memory history d since
@@ -101,7 +107,7 @@ Resumption m =
     let stopped : m .State = m .takes s d .next in
     boundary m (after m stopped since) b ≡ true
     → m .shows (after m s (d ∷ since ++ b ∷ []))
-    ≡ m .shows (after m s (keptWrites m stopped since ++ keptBoundary m (after m stopped since) b)))
+    ≡ holding [] (m .shows (after m s (keptWrites m stopped since ++ keptBoundary m (after m stopped since) b))))
 
 -- an accepted Mass Storage Reset is among the events from s on
 abbrev pub resetAmong : (m : Machine) → m .State → List Event → Bool
@@ -124,19 +130,20 @@ abbrev pub Recovery : Machine → Type 0
 Recovery m =
     (dock : Dock) (memory : List ℕ) (history : List Event) (d : Event) (since : List Event) → Stop m dock memory history d since
     → (let s : m .State = reached m dock memory history in
-    let end : World = m .shows (after m s (keptWrites m (m .takes s d .next) since)) in
+    let end : World = holding [] (m .shows (after m s (keptWrites m (m .takes s d .next) since))) in
     (m .shows (after m s (d ∷ since ++ recovery bulkOut bulkIn)) ≡ end)
     × (m .shows (after m s (d ∷ since ++ recovery bulkIn bulkOut)) ≡ end))
 
--- "Vendor requests work throughout and read and write as if no stop stood": answer, reply and every byte of either place are those of the same
--- bridge had it not stopped, and the stop stands.
+-- "Vendor requests work throughout and read and write as if no stop stood": answer, reply, every byte of either place and what is held are those of the
+-- same bridge had it not stopped, and the stop stands.
 abbrev pub VendorInStop : Machine → Type 0
 VendorInStop m =
     (s t : m .State) (reset out back : Bool) (setup host : List ℕ) (room : ℕ)
     → (let stop = inPhase (Stopped reset) (halted out back (m .shows s .bridge)) in
     let running = m .takes s (Control setup host room) in
     let stopped = m .takes t (Control setup host room) in
-    m .shows t ≡ world stop (m .shows s .bytes) (m .shows s .memory) → byte 0 setup / 32 % 4 ≡ 2
+    let stoppedAs : World → World = λ w. holding (w .held) (world stop (w .bytes) (w .memory)) in
+    m .shows t ≡ stoppedAs (m .shows s) → byte 0 setup / 32 % 4 ≡ 2
     → (stopped .answer ≡ running .answer)
     × (stopped .reply ≡ running .reply)
-    × (m .shows (stopped .next) ≡ world stop (m .shows (running .next) .bytes) (m .shows (running .next) .memory)))
+    × (m .shows (stopped .next) ≡ stoppedAs (m .shows (running .next))))

@@ -12,7 +12,7 @@ use Rattle.rules.specs.declared.Dock.{Dock}
 use Rattle.rules.specs.declared.Phase.the-variants.{Awaiting}
 use Rattle.rules.specs.Words.{byte, word, one}
 use Rattle.rules.specs.Held.{World, world, isStopped}
-use Rattle.rules.specs.Step.{Event, BusReset, Control, Packet, Report, StatusRequest, Outcome, Machine, after, reached, done}
+use Rattle.rules.specs.Step.{Event, BusReset, Control, Packet, Report, StatusRequest, Burst, EndMark, Outcome, Machine, after, reached, done}
 use Rattle.rules.specs.Demands.Refusals.{damages}
 use Rattle.rules.specs.Demands.Requests.{wire, asking, ordering}
 use Rattle.rules.specs.Demands.Makers.{flagsFor, packet, Fills, passThrough, Askable, takenApart, telling, Free}
@@ -30,6 +30,8 @@ setsTo (Control setup host room) c = cond (eqb (byte 0 setup) 0x00 && eqb (byte 
 setsTo (Packet p room) c = c
 setsTo (Report direction failed amount) c = c
 setsTo (StatusRequest room) c = c
+setsTo (Burst bytes) c = c
+setsTo (EndMark room) c = c
 
 -- what the accepted events from s on make of a configuration
 abbrev pub configured : (m : Machine) → m .State → List Event → ℕ → ℕ
@@ -126,13 +128,15 @@ ResetsAgree m =
 
 -- ---- replies
 
--- Only a packet hands out operations, and only a control request and a status request a reply.
+-- Only a packet and an end mark hand out operations, and only a control request and a status request a reply.
 abbrev pub HandsOnly : {State : Type 0} → Event → Outcome State → Type 0
 HandsOnly BusReset o = (o .reply ≡ []) × (o .operations ≡ [])
 HandsOnly (Control setup host room) o = o .operations ≡ []
 HandsOnly (Packet p room) o = o .reply ≡ []
 HandsOnly (Report direction failed amount) o = (o .reply ≡ []) × (o .operations ≡ [])
 HandsOnly (StatusRequest room) o = o .operations ≡ []
+HandsOnly (Burst bytes) o = (o .reply ≡ []) × (o .operations ≡ [])
+HandsOnly (EndMark room) o = o .reply ≡ []
 
 abbrev pub HandsOutItsOwn : Machine → Type 0
 HandsOutItsOwn m = (s : m .State) (e : Event) → HandsOnly e (m .takes s e)

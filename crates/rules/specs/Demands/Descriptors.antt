@@ -9,7 +9,7 @@ use Rattle.rules.specs.declared.Stands.the-variants.{InRoom, InMemory}
 use Rattle.rules.specs.Words.{byte, word}
 use Rattle.rules.specs.Held.{World}
 use Rattle.rules.specs.Descriptors.{at}
-use Rattle.rules.specs.Step.{Event, BusReset, Control, Packet, Report, StatusRequest, Outcome, Machine, done}
+use Rattle.rules.specs.Step.{Event, BusReset, Control, Packet, Report, StatusRequest, Burst, EndMark, Outcome, Machine, done}
 use Rattle.rules.specs.Demands.Requests.{wire}
 
 -- Get Descriptor as a host makes it: type and index in wValue, a language or anything else in wIndex, and what it sends with it
@@ -99,6 +99,8 @@ wants (Control setup host room) = eqb (byte 0 setup) 0x80 && eqb (byte 1 setup) 
 wants (Packet p room) = false
 wants (Report direction failed amount) = false
 wants (StatusRequest room) = false
+wants (Burst bytes) = false
+wants (EndMark room) = false
 
 abbrev pub OnlyDescriptorsStand : Machine → Type 0
 OnlyDescriptorsStand m = (s : m .State) (e : Event) → wants e ≡ false → m .takes s e .stands ≡ InRoom

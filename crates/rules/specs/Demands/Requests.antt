@@ -8,7 +8,7 @@ use lib.ListN.{length}
 use lib.Dec.{eqb, leb, ltb}
 use Rattle.rules.specs.declared.Setup.{Setup}
 use Rattle.rules.specs.Words.{byte, word}
-use Rattle.rules.specs.Step.{Event, BusReset, Control, Packet, Report, StatusRequest, Machine}
+use Rattle.rules.specs.Step.{Event, BusReset, Control, Packet, Report, StatusRequest, Burst, EndMark, Machine}
 
 -- "Fields are the whole 16-bit numbers, low byte first": how a host puts them on the wire, and what must be read from it
 abbrev pub wire : ℕ → ℕ → ℕ → ℕ → ℕ → List ℕ
@@ -35,6 +35,8 @@ Guarded (Control setup host room) =
 Guarded (Packet p room) = Unit {0}
 Guarded (Report direction failed amount) = Unit {0}
 Guarded (StatusRequest room) = Unit {0}
+Guarded (Burst bytes) = ⊥
+Guarded (EndMark room) = Unit {0}
 
 abbrev pub Unconfigured : Machine → Type 0
 Unconfigured m = (s : m .State) (e : Event) → m .shows s .bridge .configured ≡ false → Guarded e → m .takes s e .answer ≡ 4
@@ -46,6 +48,8 @@ isWrite (Control setup host room) = eqb (byte 0 setup) 0x40 && eqb (byte 1 setup
 isWrite (Packet p room) = false
 isWrite (Report direction failed amount) = false
 isWrite (StatusRequest room) = false
+isWrite (Burst bytes) = false
+isWrite (EndMark room) = false
 
 -- n bytes from start on are the host's where `hit` says so, and every other byte is as before
 abbrev pub Holds : Bool → ℕ → ℕ → List ℕ → List ℕ → List ℕ → Type 0

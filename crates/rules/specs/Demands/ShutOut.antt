@@ -6,9 +6,9 @@ use lib.ListN.{length, replicate}
 use lib.Dec.{ltb}
 use Rattle.rules.specs.declared.Phase.the-variants.{StatusWaiting}
 use Rattle.rules.specs.declared.Stands.the-variants.{InRoom}
-use Rattle.rules.specs.Held.{World, world, powered, inPhase, isStopped}
+use Rattle.rules.specs.Held.{World, world, holding, powered, inPhase, isStopped}
 use Rattle.rules.specs.Packets.{commandOf}
-use Rattle.rules.specs.Step.{Event, BusReset, Control, Packet, Report, StatusRequest, Outcome, Machine, damaged, given, step}
+use Rattle.rules.specs.Step.{Event, BusReset, Control, Packet, Report, StatusRequest, Burst, EndMark, Outcome, Machine, damaged, given, step}
 use Rattle.rules.specs.Demands.Examples.{Examples}
 use Rattle.rules.specs.Demands.Requests.{ExactWrites, ExactReads}
 use Rattle.rules.specs.Demands.Operations.{ExactOperations}
@@ -35,6 +35,8 @@ stalls w (Control setup host room) = record { answer = 5; reply = []; stands = I
 stalls w (Packet p room) = step w (Packet p room)
 stalls w (Report direction failed amount) = step w (Report direction failed amount)
 stalls w (StatusRequest room) = step w (StatusRequest room)
+stalls w (Burst bytes) = step w (Burst bytes)
+stalls w (EndMark room) = step w (EndMark room)
 
 abbrev pub stallsAll : Machine
 stallsAll = acting stalls
@@ -45,17 +47,20 @@ repliesZeros = acting (λ w e. replying (replicate (length (step w e .reply)) 0)
 
 -- "one that accepts writes and stores nothing"
 abbrev pub storesNothing : Machine
-storesNothing = acting (λ w e. leaving (world (step w e .next .bridge) (w .bytes) (w .memory)) (step w e))
+storesNothing = acting (λ w e. leaving (holding (step w e .next .held) (world (step w e .next .bridge) (w .bytes) (w .memory))) (step w e))
 
 -- "one that performs the first command and then only builds status packets": beside what a bridge holds, it remembers whether it has performed one
+abbrev built : World → List ℕ → Outcome World → Outcome World
+built w p o = operating [] (leaving (world (inPhase (StatusWaiting (commandOf p .tag) 0 0) (w .bridge)) (w .bytes) (w .memory)) o)
+
 abbrev builds : World → Event → Outcome World
 builds w BusReset = step w BusReset
 builds w (Control setup host room) = step w (Control setup host room)
-builds w (Packet p room) =
-    operating []
-    (leaving (world (inPhase (StatusWaiting (commandOf p .tag) 0 0) (w .bridge)) (w .bytes) (w .memory)) (step w (Packet p room)))
+builds w (Packet p room) = built w p (step w (Packet p room))
 builds w (Report direction failed amount) = step w (Report direction failed amount)
 builds w (StatusRequest room) = step w (StatusRequest room)
+builds w (Burst bytes) = step w (Burst bytes)
+builds w (EndMark room) = built w (w .held) (step w (EndMark room))
 
 abbrev performing : World × Bool → Event → Outcome (World × Bool)
 performing (w, performed) e =

@@ -2,7 +2,7 @@
 use mathlib.Core.Path.{_≡_}
 use mathlib.Core.Bool.{Bool, true, false, _&&_, _||_}
 use mathlib.Core.List.{List, [], _∷_}
-use Prim.Native.Nat.{ℕ, _<_}
+use Prim.Native.Nat.{ℕ, _<_, _≤_}
 use lib.ListN.{length}
 use lib.Dec.{leb, ltb}
 use Rattle.rules.specs.declared.Direction.the-variants.{Out, In}
@@ -12,7 +12,7 @@ use Rattle.rules.specs.declared.Phase.{Phase}
 use Rattle.rules.specs.declared.Phase.the-variants.{Awaiting, Busy, StatusWaiting, Stopped}
 use Rattle.rules.specs.Words.{byte}
 use Rattle.rules.specs.Held.{World}
-use Rattle.rules.specs.Step.{Event, BusReset, Control, Packet, Report, StatusRequest, Machine, reached}
+use Rattle.rules.specs.Step.{Event, BusReset, Control, Packet, Report, StatusRequest, Burst, EndMark, Machine, reached}
 
 abbrev pub Bytes : List ℕ → Type 0
 Bytes s = (k : ℕ) → byte k s < 256
@@ -24,6 +24,8 @@ Proper (Control setup host room) = Bytes host
 Proper (Packet p room) = Unit {0}
 Proper (Report direction failed amount) = Unit {0}
 Proper (StatusRequest room) = Unit {0}
+Proper (Burst bytes) = Unit {0}
+Proper (EndMark room) = Unit {0}
 
 abbrev pub ProperAll : List Event → Type 0
 ProperAll [] = Unit {0}
@@ -44,6 +46,8 @@ pub record WellFormed (w : World) : Type 0 where
   pub bytes : Bytes (w .bytes)
   pub memory : Bytes (w .memory)
   pub phase : sound (w .bridge .phase) (w .bridge .halts) ≡ true
+  -- no more is held than it takes to see that a packet is too long
+  pub held : length (w .held) ≤ 32
 
 abbrev pub StaysWellFormed : Machine → Type 0
 StaysWellFormed m =

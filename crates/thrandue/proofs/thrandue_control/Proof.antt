@@ -69,7 +69,7 @@ returns-2 c =
     let image = at .image .now in
     let served = c .before .before .before .before .before .before .serve in
     let case = c .before .before .before .before .before .before .before .before .before .before .before .before .before .judgement2 .given in
-    granted image (at .memory .now) (Control (at .setup .now) (at .host .now)) (at .reply .now) (served .result) (case .0 .0) (case .0 .1 .0) (at .host .now)
+    granted image (at .memory .now) (at .setup .now) (at .host .now) (at .reply .now) (served .result) (case .0 .0) (case .0 .1 .0)
     (c .before .before .before .before .before .before .before .before .before .before .load .ensures) (served .ensures .0)
     (by-judgement (worldOf image (at .memory .now)) (at .setup .now) (at .host .now) (at .reply .now)
     (rw (c .before .before .before .before .before .before .before .before .before .before .before .before .before .before .before .before .before .seen .ensures) at (c .before .before .before .before .before .before .before .before .before .before .before .before .before .before .before .judge .ensures)) (case .1)
@@ -84,7 +84,7 @@ returns-3 c =
     let at = c .before .before .before .before .before .before .before .before .before .before .before .before .args in
     let image = at .image .now in
     let case = c .before .before .judgement3 .given in
-    found-there image (at .memory .now) (Control (at .setup .now) (at .host .now)) (at .reply .now) (case .0 .0) (case .0 .1 .0)
+    found-there image (at .memory .now) (at .setup .now) (at .host .now) (at .reply .now) (case .0 .0) (case .0 .1 .0)
     (by-judgement (worldOf image (at .memory .now)) (at .setup .now) (at .host .now) (at .reply .now)
     (rw (c .before .before .before .before .before .before .seen .ensures) at (c .before .before .before .before .judge .ensures)) (case .1))
     (c .found .ensures)

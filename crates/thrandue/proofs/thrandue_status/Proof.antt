@@ -1,7 +1,8 @@
 -- `thrandue::thrandue_status` meets its contract.
+use mathlib.Core.Path.{refl}
 use Rattle.rules.specs.Step.{StatusRequest}
 use Rattle.image.specs.Image.{bytesOf}
-use Rattle.thrandue.proofs.Laws.{unwritten}
+use Rattle.thrandue.proofs.Laws.{told}
 use borrow.Author.Needs.{needs}
 use Rattle.thrandue.proofs.thrandue_status.Statement.{statement}
 use Rattle.thrandue.proofs.thrandue_status.Tie as tie
@@ -22,7 +23,7 @@ returns : tie.Need-returns
 returns c =
     let at = c .before .before .before .before .before .before .before .before .before .args in
     let image = at .image .now in
-    λ memory. unwritten image memory StatusRequest (at .reply .now) (c .before .before .before .status .result)
+    λ memory. told image memory StatusRequest (at .reply .now) (c .before .before .before .status .result) refl
     (rw (c .before .before .before .before .before .before .load .ensures) at (c .before .before .before .status .ensures (bytesOf image) memory)) (c .leave .ensures)
 
 pub thrandue-status-spec : {M : Type 1} → statement M

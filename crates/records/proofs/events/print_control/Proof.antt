@@ -1,5 +1,5 @@
 -- `records::events::print_control` meets its contract.
-use mathlib.Core.Path.{_≡_, sym}
+use mathlib.Core.Path.{_≡_, refl, sym}
 use lib.Seq.{length-take-le}
 use Prim.Native.Nat.{_-_, min}
 use lib.ListN.{length, take, drop}
@@ -56,7 +56,7 @@ returns : tie.Need-returns
 returns c =
     let start = c .before .before .before .before .before .before .before .before .before .before .before .before .before .before .before .before .before .before .before .before .before .before .before in
     let left = c .before .before .before .before .before .before .before .before .before .before .before .before .control in
-    control-prints (world (start .args .b) (start .args .bytes .now) (start .args .memory .now)) (start .args .payload .now) (start .args .reply .now) (left .result .stands) (c .before .before .before .before .before .before .before .before .before .before .before .before .before .before .before .before .before .before .setup-length .ensures) (start .pre .0) (left .ensures) (c .before .before .before .before .shown .ensures) (c .before .before .print-bytes .ensures)
+    control-prints (world (start .args .b) (start .args .bytes .now) (start .args .memory .now)) (start .args .payload .now) (start .args .reply .now) (left .result .stands) refl (c .before .before .before .before .before .before .before .before .before .before .before .before .before .before .before .before .before .before .setup-length .ensures) (start .pre .0) (left .ensures) (c .before .before .before .before .shown .ensures) (c .before .before .print-bytes .ensures)
 
 pub print-control-spec : {M : Type 1} → statement M
 print-control-spec =

@@ -51,7 +51,7 @@ unfolding eventOf
 returns c =
     let at = c .before .before .before .before .before .before .before .before .before .before .before .args in
     rw (c .before .before .before .before .before .before .match .keys1)
-    (prints (world (at .b) (at .bytes .now) (at .memory .now)) (λ n. BusReset) [] (c .before .before .before .before .before .bus-reset .result) (at .bytes .now) (at .memory .now) [] (c .before .before .before .before .before .bus-reset .ensures (at .b) (at .bytes .now) (at .memory .now)) hexByte refl (c .before .before .print-bytes .ensures))
+    (prints (world (at .b) (at .bytes .now) (at .memory .now)) (λ n. BusReset) [] (c .before .before .before .before .before .bus-reset .result) (at .bytes .now) (at .memory .now) [] (c .before .before .before .before .before .bus-reset .ensures (at .b) (at .bytes .now) (at .memory .now)) hexByte refl refl (c .before .before .print-bytes .ensures))
 
 same-length-2 : tie.Need-same-length-2
 same-length-2 c = search needs
@@ -87,7 +87,7 @@ returns-5 : tie.Need-returns-5
 returns-5 c =
     let at = c .before .before .before .before .before .before .before .before .before .before .before .before .before .before .args in
     let other = c .before .before .before .before .before .before .before .before .before .match .rest in
-    status-prints (world (at .b) (at .bytes .now) (at .memory .now)) (at .payload .now) (at .reply .now) (other .0 .0 .0 .1) (other .0 .0 .1) (other .0 .1) (other .1) (c .before .before .before .before .before .before .before .before .before .before .before .before .before .before .pre .1) (c .before .before .before .before .before .before .before .status .ensures (at .bytes .now) (at .memory .now)) (c .before .before .print-bytes2 .ensures)
+    status-prints (world (at .b) (at .bytes .now) (at .memory .now)) (at .payload .now) (at .reply .now) refl (other .0 .0 .0 .1) (other .0 .0 .1) (other .0 .1) (other .1) (c .before .before .before .before .before .before .before .before .before .before .before .before .before .before .pre .1) (c .before .before .before .before .before .before .before .status .ensures (at .bytes .now) (at .memory .now)) (c .before .before .print-bytes2 .ensures)
 
 pub print-event-spec : {M : Type 1} → statement M
 print-event-spec =

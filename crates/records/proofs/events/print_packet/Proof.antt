@@ -38,7 +38,7 @@ returns c =
     let start = c .before .before .before .before .before .before .before .before .before .before in
     let packet = c .before .before .before .before .before .before .packet in
     let print-words = c .before .before .print-words in
-    λ bytes m h. prints (world (start .args .b) bytes m) (Packet (start .args .payload .now)) (replicate 11 0) (packet .result) bytes m _ (packet .ensures bytes m h) hexWord refl (print-words .ensures)
+    λ bytes m h. prints (world (start .args .b) bytes m) (Packet (start .args .payload .now)) (replicate 11 0) (packet .result) bytes m _ (packet .ensures bytes m h) hexWord refl refl (print-words .ensures)
 
 pub print-packet-spec : {M : Type 1} → statement M
 print-packet-spec =

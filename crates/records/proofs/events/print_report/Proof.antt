@@ -57,7 +57,7 @@ returns c =
     let report = c .before .before .before .before .before .report in
     let print-bytes = c .before .before .print-bytes in
     let p = start .args .payload .now in
-    λ bytes m. prints (world (start .args .b) bytes m) (λ n. Report (byte 0 p) (byte 1 p) (long 2 p)) [] (report .result) bytes m [] (rw (← the-long .ensures) (report .ensures bytes m)) hexByte refl (print-bytes .ensures)
+    λ bytes m. prints (world (start .args .b) bytes m) (λ n. Report (byte 0 p) (byte 1 p) (long 2 p)) [] (report .result) bytes m [] (rw (← the-long .ensures) (report .ensures bytes m)) hexByte refl refl (print-bytes .ensures)
 
 pub print-report-spec : {M : Type 1} → statement M
 print-report-spec =
