@@ -9,8 +9,9 @@
 static const char help[] =
     "[OPTION..] FILE [[OPTION..] FILE..]\n"
     "Replays sessions and prints how often each event, the control\n"
-    "requests one by one, met each answer in each phase before it; - where the paper allows\n"
-    "none. The options hold for the files after them:\n" BENCH_OPTIONS_HELP
+    "requests one by one, met each answer in each phase before it, - where the paper allows\n"
+    "none, and how often with something held.\n"
+    "The options hold for the files after them:\n" BENCH_OPTIONS_HELP
     "Status 0: all is allowed, and met 100 times or more; 1: it is not, an event changed what it\n"
     "must leave alone, or a session is torn; 2: bad usage, or a file that cannot be read.\n";
 
@@ -38,15 +39,19 @@ enum event {
     PACKET,
     REPORT,
     STATUS,
+    BURST,
+    END_MARK,
     EVENTS
 };
 
 static const char *const event_names[EVENTS] = {
-    "bus reset",        "Set Configuration", "Get Descriptor", "Get Configuration",
-    "Clear Feature",    "Get Status",        "Get Max LUN",    "Mass Storage Reset",
-    "LOAD_CONFIG_DATA", "READ_CONFIG_DATA",  "SOFT_RESET",     "BOGUS_READ",
-    "other request",    "setup not 8 bytes", "command packet", "drive report",
-    "status request",
+    "bus reset",         "Set Configuration",  "Get Descriptor",
+    "Get Configuration", "Clear Feature",      "Get Status",
+    "Get Max LUN",       "Mass Storage Reset", "LOAD_CONFIG_DATA",
+    "READ_CONFIG_DATA",  "SOFT_RESET",         "BOGUS_READ",
+    "other request",     "setup not 8 bytes",  "command packet",
+    "drive report",      "status request",     "burst",
+    "end mark",
 };
 
 static const char *const phase_names[PHASES] = {"awaiting", "busy", "waiting", "stopped",
@@ -143,6 +148,14 @@ static const struct {
     {STATUS, 11, ANY},
     {STATUS, 16, AWAITING | BUSY},
     {STATUS, 3, WAITING},
+    {BURST, 0, ANY},
+    {END_MARK, 0, AWAITING},
+    {END_MARK, 4, AWAITING},
+    {END_MARK, 11, AWAITING | WAITING | STOPPED | AFTER_RESET},
+    {END_MARK, 16, BUSY | WAITING},
+    {END_MARK, 13, AWAITING},
+    {END_MARK, 14, AWAITING},
+    {END_MARK, 15, AWAITING},
 };
 
 enum {
@@ -153,6 +166,9 @@ struct coverage {
     struct bench bench;
     struct bench before;
     unsigned long counts[EVENTS][ANSWERS][PHASES];
+    /* How often something was held before it, and how often a burst left so much held. */
+    unsigned long holding[EVENTS][ANSWERS];
+    unsigned long held[THRANDUE_HELD_TOO_LONG + 1];
     unsigned long faults;
 };
 
@@ -178,6 +194,10 @@ static enum event event_of(const struct record *record) {
         return PACKET;
     case RECORD_REPORT:
         return REPORT;
+    case RECORD_BURST:
+        return BURST;
+    case RECORD_END_MARK:
+        return END_MARK;
     default:
         return STATUS;
     }
@@ -209,8 +229,15 @@ static bool only_reads(enum event event) {
            event == GET_MAX_LUN || event == READ_CONFIG_DATA || event == BOGUS_READ;
 }
 
+static size_t differing(const thrandue_image *one, const thrandue_image *other) {
+    size_t count = 0;
+    for (size_t i = 0; i < sizeof one->bytes; i++)
+        count += one->bytes[i] != other->bytes[i];
+    return count;
+}
+
 /* 13 and 14 stop the bridge; any other refusal, and a request that only reads, leaves every byte of
- * the image. */
+ * the image but the one that says how much is held. */
 static bool keeps_the_image(const struct coverage *coverage, enum event event, uint8_t answer) {
     const thrandue_image *image = coverage->bench.image;
     const thrandue_image *before = coverage->before.image;
@@ -219,7 +246,38 @@ static bool keeps_the_image(const struct coverage *coverage, enum event event, u
                thrandue_halts(image) == (THRANDUE_HALT_OUT | THRANDUE_HALT_IN) &&
                thrandue_configuration(image) == thrandue_configuration(before);
     return (answer == THRANDUE_DONE && !only_reads(event)) ||
-           same_from(0, image, before, sizeof *image);
+           differing(image, before) == (thrandue_held(image) != thrandue_held(before));
+}
+
+/* Which events drop what is held, by the paper. */
+static bool drops(const struct coverage *coverage, enum event event, uint8_t answer) {
+    switch (event) {
+    case BUS_RESET:
+    case PACKET:
+    case END_MARK:
+        return true;
+    case SET_CONFIGURATION:
+    case MASS_STORAGE_RESET:
+    case SOFT_RESET:
+        return answer == THRANDUE_DONE;
+    case CLEAR_FEATURE:
+        return thrandue_phase(coverage->before.image) == THRANDUE_STOPPED_RESET &&
+               thrandue_phase(coverage->bench.image) == THRANDUE_AWAITING;
+    default:
+        return false;
+    }
+}
+
+static bool holds_as_it_should(const struct coverage *coverage, const struct record *record,
+                               enum event event, uint8_t answer) {
+    unsigned held = thrandue_held(coverage->before.image);
+    if (drops(coverage, event, answer))
+        held = 0;
+    if (event == BURST)
+        held += record->length;
+    if (held > PACKET_LENGTH)
+        held = THRANDUE_HELD_TOO_LONG;
+    return thrandue_held(coverage->bench.image) == held;
 }
 
 /* A part of the memory is inside it, and every other reply is at the front of its room. */
@@ -237,8 +295,8 @@ static bool keeps_the_rooms(const struct coverage *coverage, enum event event, u
     const struct bench *bench = &coverage->bench;
     const struct bench *before = &coverage->before;
     uint32_t count = thrandue_count(outcome);
-    uint32_t operations = event == PACKET ? count : 0;
-    uint32_t bytes = event == PACKET || event == GET_DESCRIPTOR ? 0 : count;
+    uint32_t operations = event == PACKET || event == END_MARK ? count : 0;
+    uint32_t bytes = operations != 0 || event == GET_DESCRIPTOR ? 0 : count;
     if (thrandue_answer(outcome) != THRANDUE_DONE && count != 0)
         return false;
     return stands_inside(bench, event, outcome) &&
@@ -248,13 +306,15 @@ static bool keeps_the_rooms(const struct coverage *coverage, enum event event, u
 }
 
 /* Only an accepted write changes the memory, and nothing changes what is lent for reading: setup,
- * host data, packet. */
+ * host data, packet, burst. */
 static bool keeps_the_rest(const struct coverage *coverage, const struct record *record,
                            enum event event, uint64_t outcome) {
     const struct bench *bench = &coverage->bench;
     uint8_t answer = thrandue_answer(outcome);
     bool writes = event == LOAD_CONFIG_DATA && answer == THRANDUE_DONE;
-    return keeps_the_image(coverage, event, answer) && keeps_the_rooms(coverage, event, outcome) &&
+    return keeps_the_image(coverage, event, answer) &&
+           holds_as_it_should(coverage, record, event, answer) &&
+           keeps_the_rooms(coverage, event, outcome) &&
            (writes ||
             same_from(0, bench->memory, coverage->before.memory, bench->options.memory)) &&
            same_from(0, bench_payload(bench, record), record->payload, record->length);
@@ -268,6 +328,8 @@ static void count_event(void *context, const struct record *record) {
     uint64_t outcome = bench_event(&coverage->bench, record);
     uint8_t answer = thrandue_answer(outcome);
     coverage->counts[event][answer][phase]++;
+    coverage->holding[event][answer] += thrandue_held(coverage->before.image) != 0;
+    coverage->held[thrandue_held(coverage->bench.image)] += event == BURST;
     if (keeps_the_rest(coverage, record, event, outcome))
         return;
     coverage->faults++;
@@ -279,7 +341,7 @@ static int count_session(struct coverage *coverage, const char *name,
                          struct bench_options options) {
     bench_open(&coverage->bench, options);
     bench_open(&coverage->before, options);
-    int status = record_each(name, count_event, coverage);
+    int status = record_each(name, options.bursts, count_event, coverage);
     bench_close(&coverage->bench);
     bench_close(&coverage->before);
     return status;
@@ -306,6 +368,23 @@ static void judge(struct coverage *coverage, enum event event, uint8_t answer) {
     }
 }
 
+/* Whatever an event meets, it meets with something held too; and packets are cut at every place. */
+static void judge_bursts(struct coverage *coverage) {
+    for (size_t i = 0; i < ROWS; i++) {
+        if (coverage->holding[allowed[i].event][allowed[i].answer] >= LEAST)
+            continue;
+        coverage->faults++;
+        command_say("%s, answer %u with something held: met too seldom",
+                    event_names[allowed[i].event], (unsigned)allowed[i].answer);
+    }
+    for (unsigned held = 0; held <= THRANDUE_HELD_TOO_LONG; held++) {
+        if (coverage->held[held] >= LEAST)
+            continue;
+        coverage->faults++;
+        command_say("a burst that leaves %u bytes held: met too seldom", held);
+    }
+}
+
 static void print_row(const struct coverage *coverage, enum event event, uint8_t answer,
                       uint8_t phases) {
     printf("%-18s %6u", event_names[event], (unsigned)answer);
@@ -316,14 +395,14 @@ static void print_row(const struct coverage *coverage, enum event event, uint8_t
         else
             printf(" %11lu", count);
     }
-    putchar('\n');
+    printf(" %11lu\n", coverage->holding[event][answer]);
 }
 
 static void print_table(const struct coverage *coverage) {
     printf("%-18s %6s", "event", "answer");
     for (unsigned phase = 0; phase < PHASES; phase++)
         printf(" %11s", phase_names[phase]);
-    putchar('\n');
+    printf(" %11s\n", "holding");
     for (size_t i = 0; i < ROWS; i++)
         print_row(coverage, allowed[i].event, allowed[i].answer, allowed[i].phases);
 }
@@ -333,6 +412,7 @@ static int conclude(struct coverage *coverage) {
     for (unsigned event = 0; event < EVENTS; event++)
         for (unsigned answer = 0; answer < ANSWERS; answer++)
             judge(coverage, (enum event)event, (uint8_t)answer);
+    judge_bursts(coverage);
     return command_end(coverage->faults == 0 ? EXIT_FINE : EXIT_REFUSED);
 }
 

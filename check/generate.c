@@ -49,6 +49,10 @@ struct generator {
     /* What the last command that made the bridge busy asked for: reports are drawn around it. */
     uint32_t length;
     uint8_t direction;
+    /* The packet that is being handed over in bursts, and how much of it has been. */
+    struct record cut;
+    uint16_t handed;
+    bool cutting;
 };
 
 /* Steele, Lea and Flood's SplitMix64. */
@@ -429,6 +433,27 @@ static void report(struct generator *g) {
     record_store(payload + 2, 4, payload[0] == 0 && chance(g, 80) ? 0 : PICK(g, amounts));
 }
 
+/* The next burst of a packet that is cut anywhere, or its end mark, at times too early; whatever
+ * comes between is not told from here. */
+static void fragment(struct generator *g) {
+    if (!g->cutting) {
+        packet(g);
+        g->cut = g->record;
+        g->handed = 0;
+        g->cutting = true;
+    }
+    uint32_t left = (uint32_t)g->cut.length - g->handed;
+    if (chance(g, left == 0 ? 80 : 4)) {
+        start(g, RECORD_END_MARK, 0);
+        g->cutting = false;
+        return;
+    }
+    uint32_t length = chance(g, 40) ? left : below(g, left + 1);
+    start(g, RECORD_BURST, (uint16_t)length);
+    memcpy(g->record.payload, g->cut.payload + g->handed, length);
+    g->handed = (uint16_t)(g->handed + length);
+}
+
 static void anything(struct generator *g) {
     uint32_t kind = below(g, 100);
     if (kind < 1)
@@ -478,7 +503,9 @@ static void compose(struct generator *g) {
     static const uint8_t percent_of_next_steps[] = {40, 10, 15, 4, 4};
     bool configured = thrandue_configuration(g->bench.image) != 0;
     uint8_t phase = thrandue_phase(g->bench.image);
-    if (!configured && chance(g, 25))
+    if (g->bench.options.bursts && chance(g, g->cutting ? 60 : 15))
+        fragment(g);
+    else if (!configured && chance(g, 25))
         setup(g, SET_CONFIGURATION, 2, 0, 0);
     else if (configured && chance(g, percent_of_next_steps[phase]))
         next_step(g);
@@ -488,9 +515,9 @@ static void compose(struct generator *g) {
 
 static void follow(struct generator *g) {
     uint64_t outcome = bench_event(&g->bench, &g->record);
-    if (g->record.kind != RECORD_PACKET || thrandue_answer(outcome) != THRANDUE_DONE)
+    if (!record_makes_operations(&g->record) || thrandue_answer(outcome) != THRANDUE_DONE)
         return;
-    const uint8_t *packet = g->record.payload;
+    const uint8_t *packet = g->record.kind == RECORD_PACKET ? g->record.payload : g->cut.payload;
     g->length = record_load(packet + PACKET_TRANSFER_LENGTH, 4);
     g->direction = packet[PACKET_FLAGS] == FLAGS_IN ? 1 : 2;
     if (g->length == 0)
@@ -499,10 +526,12 @@ static void follow(struct generator *g) {
 
 /* Headers that are torn, and whole ones whose payload is then cut. */
 static void tear(struct generator *g) {
-    static const uint16_t headers[][2] = {
-        {521, 2},     {521, 3}, {0xFFFF, 3}, {0x0208, 0x0200}, {0, 0},   {0, 6}, {0, 0x0101},
-        {31, 0x0103}, {1, 1},   {520, 1},    {1, 5},           {13, 5},  {0, 4}, {5, 4},
-        {7, 4},       {6, 4},   {8, 2},      {31, 3},          {520, 3}, {1, 2}};
+    const uint16_t torn_burst = g->bench.options.bursts ? 521 : 0;
+    const uint16_t headers[][2] = {{521, 2}, {521, 3},        {0xFFFF, 3}, {0x0208, 0x0200},
+                                   {0, 0},   {torn_burst, 6}, {0, 0x0101}, {31, 0x0103},
+                                   {1, 1},   {520, 1},        {1, 5},      {13, 5},
+                                   {0, 4},   {5, 4},          {7, 4},      {6, 4},
+                                   {8, 2},   {31, 3},         {520, 3},    {1, 2}};
     const uint16_t *header = PICK(g, headers);
     uint8_t bytes[RECORD_HEADER + TORN_PAYLOAD_MOST] = {0};
     record_store(bytes, 2, header[0]);

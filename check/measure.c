@@ -12,7 +12,7 @@ static const char help[] =
     "Runs sessions of records through the bridge, each from power-on, and prints nothing of what\n"
     "it answers.\n"
     "  run     once; prints how many bus resets, control requests, command packets, drive\n"
-    "          reports and status requests there were\n"
+    "          reports, status requests, bursts and end marks there were\n"
     "  time    all of them TIMES times; prints the nanoseconds for an event, the calls and the\n"
     "          loop around them\n"
     "  state   prints the bytes of the bridge's state\n"
@@ -20,7 +20,7 @@ static const char help[] =
     "Status 1: a torn session; 2: bad usage, or a file that cannot be read.\n";
 
 enum {
-    KINDS = RECORD_STATUS + 1,
+    KINDS = RECORD_END_MARK + 1,
     TIMES_MOST = 1000000
 };
 
@@ -44,7 +44,7 @@ static void keep_record(void *context, const struct record *record) {
 static struct session load(const char *name) {
     struct session session = {0};
     size_t count = 0;
-    int status = record_each(name, count_record, &count);
+    int status = record_each(name, true, count_record, &count);
     if (status != EXIT_FINE)
         exit(status);
     size_t bytes = count * sizeof *session.records + MEASURED_PAGE - 1;
@@ -53,7 +53,7 @@ static struct session load(const char *name) {
         command_say("%s: no room for %zu records", name, count);
         exit(EXIT_MISUSED);
     }
-    record_each(name, keep_record, &session);
+    record_each(name, true, keep_record, &session);
     return session;
 }
 

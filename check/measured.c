@@ -46,6 +46,10 @@ uint64_t measured_event(const struct record *record) {
                                lent.memory, sizeof lent.memory, lent.reply, sizeof lent.reply);
     case RECORD_PACKET:
         return BRIDGE(packet)(&lent.state, payload, record->length, lent.operations, OPERATIONS);
+    case RECORD_BURST:
+        return BRIDGE(burst)(&lent.state, payload, record->length);
+    case RECORD_END_MARK:
+        return BRIDGE(end_mark)(&lent.state, lent.operations, OPERATIONS);
     case RECORD_REPORT:
         return BRIDGE(report)(&lent.state, payload[0], payload[1], record_load(payload + 2, 4));
     default:

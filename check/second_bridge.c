@@ -168,6 +168,7 @@ static void restart(struct second_bridge *bridge, uint8_t configuration) {
     bridge->configuration = configuration;
     bridge->phase = SECOND_AWAITING;
     bridge->halts = 0;
+    bridge->held = 0;
 }
 
 /* The whole wIndex counts: 0x0182 names no pipe. */
@@ -233,8 +234,10 @@ static uint32_t clear_feature(struct second_bridge *bridge, const struct request
     if (bridge->phase == SECOND_STOPPED)
         return SECOND_DONE;
     bridge->halts &= (uint8_t)~pipe;
-    if (bridge->phase == SECOND_STOPPED_RESET && bridge->halts == 0)
+    if (bridge->phase == SECOND_STOPPED_RESET && bridge->halts == 0) {
         bridge->phase = SECOND_AWAITING;
+        bridge->held = 0;
+    }
     return SECOND_DONE;
 }
 
@@ -253,13 +256,15 @@ static uint32_t get_max_lun(const struct request *request) {
     return reply_with(request, &last_lun);
 }
 
-/* Mass Storage Reset, and SOFT_RESET, which has no effect on a stop. */
+/* Mass Storage Reset, and SOFT_RESET, which has no effect on a stop. Both drop what is held, in a
+ * stop too. */
 static uint32_t reset_command(struct second_bridge *bridge, const struct request *request,
                               bool counts_in_a_stop) {
     if (!fields_are(request, 0, 0, 0))
         return SECOND_UNKNOWN_REQUEST;
     if (request->host_len != 0)
         return SECOND_HOST_DATA;
+    bridge->held = 0;
     if (!stopped(bridge))
         bridge->phase = SECOND_AWAITING;
     else if (counts_in_a_stop)
@@ -532,8 +537,9 @@ static uint32_t take_command(struct second_bridge *bridge, const uint8_t *packet
     return handed_out((uint32_t)count);
 }
 
-uint32_t second_packet(struct second_bridge *bridge, const uint8_t *packet, size_t packet_len,
-                       uint16_t *operations, size_t operations_len) {
+/* A packet, whole or put together of bursts. */
+static uint32_t take_packet(struct second_bridge *bridge, const uint8_t *packet, size_t packet_len,
+                            uint16_t *operations, size_t operations_len) {
     if (bridge->configuration == 0)
         return SECOND_UNCONFIGURED;
     if (stopped(bridge) || bridge->halts & SECOND_HALT_OUT)
@@ -545,6 +551,31 @@ uint32_t second_packet(struct second_bridge *bridge, const uint8_t *packet, size
     if (!meaningful(packet))
         return stop(bridge, SECOND_PACKET_NOT_MEANINGFUL);
     return take_command(bridge, packet, operations, operations_len);
+}
+
+uint32_t second_packet(struct second_bridge *bridge, const uint8_t *packet, size_t packet_len,
+                       uint16_t *operations, size_t operations_len) {
+    bridge->held = 0;
+    return take_packet(bridge, packet, packet_len, operations, operations_len);
+}
+
+uint32_t second_burst(struct second_bridge *bridge, const uint8_t *burst, size_t burst_len) {
+    uint8_t held = bridge->held;
+    if (held > SECOND_HELD_MOST || burst_len > (size_t)(SECOND_HELD_MOST - held)) {
+        bridge->held = SECOND_HELD_TOO_LONG;
+        return SECOND_DONE;
+    }
+    if (burst_len != 0)
+        memcpy(bridge->fragments + held, burst, burst_len);
+    bridge->held = (uint8_t)(held + burst_len);
+    return SECOND_DONE;
+}
+
+uint32_t second_end_mark(struct second_bridge *bridge, uint16_t *operations,
+                         size_t operations_len) {
+    uint8_t held = bridge->held;
+    bridge->held = 0;
+    return take_packet(bridge, bridge->fragments, held, operations, operations_len);
 }
 
 uint32_t second_report(struct second_bridge *bridge, uint8_t direction, uint8_t failed,
@@ -603,4 +634,8 @@ uint8_t second_configuration(const struct second_bridge *bridge) {
 
 uint8_t second_halts(const struct second_bridge *bridge) {
     return bridge->halts;
+}
+
+uint8_t second_held(const struct second_bridge *bridge) {
+    return bridge->held;
 }

@@ -44,6 +44,12 @@ enum {
     SECOND_HALT_IN = 0x02
 };
 
+/* What second_held hands out: so many bytes, or that more than a packet's came. */
+enum {
+    SECOND_HELD_MOST = 31,
+    SECOND_HELD_TOO_LONG = 32
+};
+
 enum {
     SECOND_CONFIGURATION_BYTES = 16
 };
@@ -59,6 +65,8 @@ struct second_bridge {
     uint8_t configuration;
     uint8_t bus_powered; /* fixed at power-on */
     uint8_t bytes[SECOND_CONFIGURATION_BYTES];
+    uint8_t held; /* how much has come in bursts since the last packet */
+    uint8_t fragments[SECOND_HELD_MOST];
 };
 
 /* Every event's outcome: the answer in the low byte, above it the count of reply bytes or
@@ -72,6 +80,8 @@ uint64_t second_control(struct second_bridge *bridge, const uint8_t *setup, size
                         uint8_t *reply, size_t reply_len);
 uint32_t second_packet(struct second_bridge *bridge, const uint8_t *packet, size_t packet_len,
                        uint16_t *operations, size_t operations_len);
+uint32_t second_burst(struct second_bridge *bridge, const uint8_t *burst, size_t burst_len);
+uint32_t second_end_mark(struct second_bridge *bridge, uint16_t *operations, size_t operations_len);
 uint32_t second_report(struct second_bridge *bridge, uint8_t direction, uint8_t failed,
                        uint32_t amount);
 uint32_t second_status(struct second_bridge *bridge, uint8_t *reply, size_t reply_len);
@@ -79,5 +89,6 @@ uint32_t second_status(struct second_bridge *bridge, uint8_t *reply, size_t repl
 uint8_t second_phase(const struct second_bridge *bridge);
 uint8_t second_configuration(const struct second_bridge *bridge);
 uint8_t second_halts(const struct second_bridge *bridge);
+uint8_t second_held(const struct second_bridge *bridge);
 
 #endif

@@ -5,7 +5,7 @@
 
 #include <string.h>
 
-_Static_assert(offsetof(struct second_bridge, bytes) + SECOND_CONFIGURATION_BYTES ==
+_Static_assert(offsetof(struct second_bridge, fragments) + SECOND_HELD_MOST ==
                    sizeof(thrandue_image),
                "an image holds a second bridge, up to its last byte");
 
@@ -46,6 +46,16 @@ uint32_t thrandue_packet(thrandue_image *image, const uint8_t *packet, size_t pa
                  second_packet(&bridge, packet, packet_len, operations, operations_len));
 }
 
+uint32_t thrandue_burst(thrandue_image *image, const uint8_t *burst, size_t burst_len) {
+    struct second_bridge bridge = load(image);
+    return store(image, &bridge, second_burst(&bridge, burst, burst_len));
+}
+
+uint32_t thrandue_end_mark(thrandue_image *image, uint16_t *operations, size_t operations_len) {
+    struct second_bridge bridge = load(image);
+    return store(image, &bridge, second_end_mark(&bridge, operations, operations_len));
+}
+
 uint32_t thrandue_report(thrandue_image *image, uint8_t direction, uint8_t failed,
                          uint32_t amount) {
     struct second_bridge bridge = load(image);
@@ -70,4 +80,9 @@ uint8_t thrandue_configuration(const thrandue_image *image) {
 uint8_t thrandue_halts(const thrandue_image *image) {
     struct second_bridge bridge = load(image);
     return second_halts(&bridge);
+}
+
+uint8_t thrandue_held(const thrandue_image *image) {
+    struct second_bridge bridge = load(image);
+    return second_held(&bridge);
 }

@@ -21,14 +21,16 @@ static size_t *named_size(struct bench_options *options, const char *name) {
 }
 
 static bool *named_fact(struct bench_options *options, const char *name) {
-    return strcmp(name, "--bus-powered") == 0 ? &options->bus_powered : NULL;
+    if (strcmp(name, "--bus-powered") == 0)
+        return &options->bus_powered;
+    return strcmp(name, "--bursts") == 0 ? &options->bursts : NULL;
 }
 
 struct bench_arguments bench_arguments(char **argv, const char *help) {
     return (struct bench_arguments){
         .rest = argv + 1,
         .help = help,
-        .options = {.memory = 2048, .reply = 4096, .operations = 11, .bus_powered = false},
+        .options = {.memory = 2048, .reply = 4096, .operations = 11},
     };
 }
 
@@ -110,6 +112,10 @@ uint64_t bench_event(struct bench *bench, const struct record *record) {
     case RECORD_PACKET:
         return thrandue_packet(bench->image, payload, record->length, bench->operations,
                                bench->options.operations);
+    case RECORD_BURST:
+        return thrandue_burst(bench->image, payload, record->length);
+    case RECORD_END_MARK:
+        return thrandue_end_mark(bench->image, bench->operations, bench->options.operations);
     case RECORD_REPORT:
         return thrandue_report(bench->image, payload[0], payload[1], record_load(payload + 2, 4));
     default:

@@ -9,12 +9,14 @@
 #include <stddef.h>
 #include <stdint.h>
 
-/* The sizes of what is lent, and what is fixed at power-on. */
+/* The sizes of what is lent, what is fixed at power-on, and whether a session has packets in
+ * bursts. */
 struct bench_options {
     size_t memory;
     size_t reply;
     size_t operations;
     bool bus_powered;
+    bool bursts;
 };
 
 struct bench {
@@ -38,6 +40,7 @@ struct bench_arguments {
     "  --reply N       bytes of reply room (4096)\n"                                               \
     "  --operations N  room for operations (11)\n"                                                 \
     "  --bus-powered   the dock is bus powered\n"                                                  \
+    "  --bursts        records of kind 6 are bursts of a packet, of kind 7 end marks\n"            \
     "  --help          this text\n"
 
 struct bench_arguments bench_arguments(char **argv, const char *help);

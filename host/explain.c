@@ -91,8 +91,8 @@ static void show_bytes(const char *name, const uint8_t *bytes, size_t count) {
         printf(" %02X", (unsigned)bytes[i]);
 }
 
-/* What is cut short or too long to have fields. */
-static void show_malformed(const char *name, const uint8_t *bytes, size_t length) {
+/* What has no fields to be told by: a burst, and what is cut short or too long. */
+static void show_whole(const char *name, const uint8_t *bytes, size_t length) {
     printf("%s, length %zu", name, length);
     if (length > 0)
         show_bytes("bytes", bytes, length < PACKET_LENGTH ? length : PACKET_LENGTH);
@@ -195,7 +195,7 @@ static void explain_request(const uint8_t *setup) {
 
 static void explain_control(const uint8_t *payload, size_t length) {
     if (length < SETUP_LENGTH) {
-        show_malformed("setup", payload, length);
+        show_whole("setup", payload, length);
         return;
     }
     explain_request(payload);
@@ -206,7 +206,7 @@ static void explain_control(const uint8_t *payload, size_t length) {
 static void explain_packet(const uint8_t *packet, size_t length) {
     static const uint8_t signature[] = {0x55, 0x53, 0x42, 0x43};
     if (length != PACKET_LENGTH) {
-        show_malformed("command packet", packet, length);
+        show_whole("command packet", packet, length);
         return;
     }
     uint32_t transfer = record_load(packet + PACKET_TRANSFER_LENGTH, 4);
@@ -246,6 +246,12 @@ static void explain_arrival(const struct record *record) {
         break;
     case RECORD_REPORT:
         explain_report(record->payload);
+        break;
+    case RECORD_BURST:
+        show_whole("burst", record->payload, record->length);
+        break;
+    case RECORD_END_MARK:
+        fputs("end mark", stdout);
         break;
     default:
         fputs("status request", stdout);
@@ -334,14 +340,23 @@ static void explain_reply(const struct bench *bench, uint64_t outcome) {
         printf(" | reply length %lu", (unsigned long)count);
 }
 
-static void explain_handed_out(const struct bench *bench, uint16_t kind, uint64_t outcome) {
+static void explain_handed_out(const struct bench *bench, const struct record *record,
+                               uint64_t outcome) {
     uint32_t count = thrandue_count(outcome);
-    if (kind == RECORD_PACKET)
+    if (record_makes_operations(record))
         explain_operations(bench->operations, count);
-    else if (kind == RECORD_STATUS && count == STATUS_LENGTH)
+    else if (record->kind == RECORD_STATUS && count == STATUS_LENGTH)
         explain_status(bench->reply);
     else
         explain_reply(bench, outcome);
+}
+
+/* What is held of a packet in bursts, if anything is. */
+static void show_held(unsigned held) {
+    if (held == THRANDUE_HELD_TOO_LONG)
+        fputs(", more than a packet held", stdout);
+    else if (held != 0)
+        printf(", %u byte%s held", held, held == 1 ? "" : "s");
 }
 
 void explain_event(const struct bench *bench, const struct record *record, uint64_t outcome) {
@@ -351,9 +366,10 @@ void explain_event(const struct bench *bench, const struct record *record, uint6
     explain_arrival(record);
     printf(" | %u %s", answer, meaning == NULL ? "not an answer of the paper" : meaning);
     if (answer == THRANDUE_DONE)
-        explain_handed_out(bench, record->kind, outcome);
+        explain_handed_out(bench, record, outcome);
     printf(" | configuration %u", (unsigned)thrandue_configuration(bench->image));
     show_word(phases, "phase", 2, thrandue_phase(bench->image));
     show_word(halts, "halts", 2, thrandue_halts(bench->image));
+    show_held(thrandue_held(bench->image));
     putchar('\n');
 }

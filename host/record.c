@@ -15,6 +15,7 @@ enum {
 /* A file, read by large blocks. */
 struct reader {
     int file;
+    bool bursts;
     bool failed;
     size_t next;
     size_t end;
@@ -33,7 +34,11 @@ void record_store(uint8_t *to, unsigned width, uint32_t number) {
         to[i] = (uint8_t)(number >> 8 * i);
 }
 
-static bool header_holds(const struct record *record) {
+bool record_makes_operations(const struct record *record) {
+    return record->kind == RECORD_PACKET || record->kind == RECORD_END_MARK;
+}
+
+static bool header_holds(const struct record *record, bool bursts) {
     switch (record->kind) {
     case RECORD_CONTROL:
     case RECORD_PACKET:
@@ -43,6 +48,10 @@ static bool header_holds(const struct record *record) {
         return record->length == 0;
     case RECORD_REPORT:
         return record->length == RECORD_REPORT_LENGTH;
+    case RECORD_BURST:
+        return bursts && record->length <= RECORD_PAYLOAD_MOST;
+    case RECORD_END_MARK:
+        return bursts && record->length == 0;
     default:
         return false;
     }
@@ -79,7 +88,7 @@ static size_t read_bytes(struct reader *from, uint8_t *to, size_t count) {
 static bool read_rest(struct reader *from, const uint8_t *header, struct record *record) {
     record->length = (uint16_t)record_load(header, 2);
     record->kind = (uint16_t)record_load(header + 2, 2);
-    return header_holds(record) &&
+    return header_holds(record, from->bursts) &&
            read_bytes(from, record->payload, record->length) == record->length;
 }
 
@@ -100,11 +109,11 @@ static int take_all(struct reader *from, const char *name, record_taker *take, v
     return EXIT_REFUSED;
 }
 
-int record_each(const char *name, record_taker *take, void *context) {
+int record_each(const char *name, bool bursts, record_taker *take, void *context) {
     FILE *file = command_open(name);
     if (file == NULL)
         return EXIT_MISUSED;
-    struct reader from = {.file = fileno(file)};
+    struct reader from = {.file = fileno(file), .bursts = bursts};
     int status = take_all(&from, name, take, context);
     fclose(file);
     return status;

@@ -11,7 +11,9 @@ enum {
     RECORD_CONTROL = 2,
     RECORD_PACKET = 3,
     RECORD_REPORT = 4,
-    RECORD_STATUS = 5
+    RECORD_STATUS = 5,
+    RECORD_BURST = 6,
+    RECORD_END_MARK = 7
 };
 
 enum {
@@ -28,11 +30,15 @@ struct record {
 
 typedef void record_taker(void *context, const struct record *record);
 
-/* Hands every record of the named file to the taker. Where the file is torn it says so and returns
- * EXIT_REFUSED; where it cannot be read, EXIT_MISUSED. A header is judged before its payload is
- * asked for: a torn one is known at once. Standard output is written out before each wait for more,
- * so that the other end may be a host that reads each answer before it goes on. */
-int record_each(const char *name, record_taker *take, void *context);
+/* Hands every record of the named file to the taker; without bursts, one of kind 6 or 7 is torn.
+ * Where the file is torn it says so and returns EXIT_REFUSED; where it cannot be read,
+ * EXIT_MISUSED. A header is judged before its payload is asked for: a torn one is known at once.
+ * Standard output is written out before each wait for more, so that the other end may be a host
+ * that reads each answer before it goes on. */
+int record_each(const char *name, bool bursts, record_taker *take, void *context);
+
+/* Whether a record's event hands out operations, and not bytes. */
+bool record_makes_operations(const struct record *record);
 
 /* Whether it was written; the header is written as it stands, torn or not. */
 bool record_write(FILE *to, const struct record *record);

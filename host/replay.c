@@ -31,7 +31,7 @@ static void answer(void *context, const struct record *record) {
     uint32_t count = thrandue_count(outcome);
     printf("%u", (unsigned)thrandue_answer(outcome));
     for (uint32_t i = 0; i < count; i++) {
-        if (record->kind == RECORD_PACKET)
+        if (record_makes_operations(record))
             printf(" %04X", (unsigned)bench->operations[i]);
         else
             printf(" %02X", (unsigned)reply[i]);
@@ -44,7 +44,7 @@ static void answer(void *context, const struct record *record) {
 static int run(const char *name, struct bench_options options, bool explains) {
     struct replay replay = {.explains = explains};
     bench_open(&replay.bench, options);
-    int status = record_each(name, answer, &replay);
+    int status = record_each(name, options.bursts, answer, &replay);
     if (status == EXIT_REFUSED)
         puts("torn");
     bench_close(&replay.bench);

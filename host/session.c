@@ -168,6 +168,8 @@ static const struct form forms[] = {
     {"command", RECORD_PACKET, PACKET, {PACKET_FRONT, 0x24, 0x24}, command_fields, NULL},
     {"packet", RECORD_PACKET, BEFORE_BLOCK, {PACKET_FRONT}, packet_fields, "block"},
     {"packet-bytes", RECORD_PACKET, 0, {0}, no_fields, "data"},
+    {"burst", RECORD_BURST, 0, {0}, no_fields, "data"},
+    {"end-mark", RECORD_END_MARK, 0, {0}, no_fields, NULL},
     {"report", RECORD_REPORT, RECORD_REPORT_LENGTH, {0}, report_fields, NULL},
     {"status", RECORD_STATUS, 0, {0}, no_fields, NULL},
 };
@@ -413,6 +415,6 @@ int main(int argc, char **argv) {
     if (strcmp(argv[1], "encode") == 0)
         return command_end(encode(name));
     if (strcmp(argv[1], "decode") == 0)
-        return command_end(record_each(name, print_record, NULL));
+        return command_end(record_each(name, true, print_record, NULL));
     return command_misused("%s is neither encode nor decode", argv[1]);
 }
