@@ -51,7 +51,7 @@ seven-eight : (a b c d e f g h : ℕ) → a + (b + (c + (d + (e + (f + (h + 0)))
 seven-eight a b c d e f g h = omega arith
 
 -- the sum of a write block's parts: poll p, seven registers t, transfer m, the select and read 7
-written : (p b t g n m : ℕ) → p ≡ 1 - b → b < 2 → t + g ≡ n → p + 2 + t + m ≡ 2 - b + n - g + m + 1
+written : (p b t g n m : ℕ) → p ≡ 1 - b → b < 2 → t + g ≡ n → p + 2 + t + m ≡ 2 - b + n + 1 - g + m
 written p b t g n m hp hb hn = omega arith
 
 module _ (block : List ℕ) (l : ℕ) (d : Direction) (h : byte 3 block < 256) where
@@ -60,7 +60,7 @@ module _ (block : List ℕ) (l : ℕ) (d : Direction) (h : byte 3 block < 256) w
 
   pub count-write : bit 0 (action block) ≡ false
       → length (operationsOf block l d)
-      ≡ 2 - bitOf 2 (action block) + ones (byte 3 block) - bitOf 6 (byte 3 block) + boolByte (ltb 0 l) + 1
+      ≡ 2 - bitOf 2 (action block) + ones (byte 3 block) + 1 - bitOf 6 (byte 3 block) + boolByte (ltb 0 l)
   count-write e =
       let other : bitOf 0 (action block) ≡ 1 → ⊥ = eqb-false _ 1 e in
       let registers = seven-eight _ _ _ _ _ _ _ _ ∙ sym (ones-tally block h) in

@@ -109,19 +109,19 @@ fn is_recognised(block: &[u8], size: u8, expected: u32, direction: Direction, si
         && (!is_set(action, TASK_FILE_READ) || is_readable(action, expected, direction))
 }
 
-fn count(block: &[u8], expected: u32) -> u16
+fn count(block: &[u8], expected: u32) -> u8
     requires { ⌜ length (now block) ≡ 16 ⌝ }
     ensures { λ r. ⌜ ((d : Direction) → r ≡ length (operationsOf (now (block .entry)) expected d)) ⌝ }
 {
     let action = block[ACTION];
     let selection = block[SELECTION];
     // Poll, select, and an operation for each register.
-    let common = 2 - bit(action, POLL_ALT_STAT_OVERRIDE) as u16 + u8::count_ones(selection) as u16;
+    let common = 2 - bit(action, POLL_ALT_STAT_OVERRIDE) + u8::count_ones(selection) as u8;
     if is_set(action, TASK_FILE_READ) {
         return common;
     }
-    // Register 6 is not written: the select stands for it. Then the transfer, and the read of register 7.
-    common - bit(selection, DEVICE) as u16 + (expected > 0) as u16 + 1
+    // The read of register 7; register 6 is not written, since the select stands for it; the transfer.
+    common + 1 - bit(selection, DEVICE) + (expected > 0) as u8
 }
 
 // Stores an operation if it is on: high byte kind, low byte the operand. Returns the place of the next.

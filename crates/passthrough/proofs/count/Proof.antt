@@ -18,14 +18,11 @@ shared-slice-read-selection c = search needs
 bit-requires : tie.Need-bit-requires
 bit-requires c κs = search needs
 
-cast-common : tie.Need-cast-common
-cast-common c = search needs
-
 sub-common : tie.Need-sub-common
 sub-common c = search needs
 
-cast-common-2 : tie.Need-cast-common-2
-cast-common-2 c = omega (arith, ones-le 8 _ (c .before .before .before .shared-slice-known .given 3 .fits))
+cast-common : tie.Need-cast-common
+cast-common c = omega (arith, ones-le 8 _ (c .before .before .before .shared-slice-known .given 3 .fits))
 
 add-common : tie.Need-add-common
 add-common c = omega (arith, ones-le 8 _ (c .before .before .before .shared-slice-known .given 3 .fits))
@@ -40,22 +37,17 @@ returns c =
     let fits = known .shared-slice-known .given 3 .fits in
     λ d. rw (c .before .before .bit .ensures) (sym (count-read block _ d fits (sym (c .before .is-set .ensures) ∙ c .if1 .taken)))
 
+add-result : tie.Need-add-result
+add-result c = omega (arith, ones-le 8 _ (c .before .before .before .before .before .shared-slice-known .given 3 .fits))
+
 bit-requires-2 : tie.Need-bit-requires-2
 bit-requires-2 c κs = search needs
-
-cast-result : tie.Need-cast-result
-cast-result c = search needs
 
 sub-result : tie.Need-sub-result
 sub-result c = search needs
 
-cast-result-2 : tie.Need-cast-result-2
-cast-result-2 c = search needs
-
-add-result : tie.Need-add-result
-add-result c =
-    let known = c .before .before .before .before .before .before in
-    omega (arith, ones-le 8 _ (known .shared-slice-known .given 3 .fits), bool-most (ltb 0 (known .before .args .expected)))
+cast-result : tie.Need-cast-result
+cast-result c = search needs
 
 add-result-2 : tie.Need-add-result-2
 add-result-2 c =
@@ -77,16 +69,14 @@ count-spec =
     shared-slice-read-action
     shared-slice-read-selection
     bit-requires
-    cast-common
     sub-common
-    cast-common-2
+    cast-common
     add-common
     is-set-requires
     returns
-    bit-requires-2
-    cast-result
-    sub-result
-    cast-result-2
     add-result
+    bit-requires-2
+    sub-result
+    cast-result
     add-result-2
     returns-2)
