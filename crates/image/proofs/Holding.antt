@@ -13,7 +13,7 @@ use Rattle.rules.specs.Held.{holding}
 use Rattle.rules.specs.Bursts.{kept}
 use Rattle.rules.proofs.Bursts.{held-whole, held-too-long, held-behind}
 use Rattle.rules.proofs.Rows.{over-length, over-laid, over-pastes}
-use Rattle.image.proofs.Rows.{by-bytes}
+use Rattle.image.proofs.Rows.{by-bytes, copied-back}
 use Rattle.image.specs.Image.{heldOf, worldOf, added, BurstInStep, BehindTheCount}
 
 -- ---- how a burst is added
@@ -22,8 +22,10 @@ module _ (burst image : List ℕ) {n : ℕ} (counted : n ≡ byte 61 image) wher
   pub too-much : 31 < n + length burst → set image 61 32 ≡ added burst image
   too-much h = rw (← counted, lt-ltb 31 (n + length burst) h)
 
-  pub fits : n + length burst ≤ 31 → set (over image 30 (over (drop 30 image) n burst)) 61 (n + length burst) ≡ added burst image
-  fits h = rw (← counted, le-ltb 31 (n + length burst) h)
+  pub fits : n + length burst ≤ 31 → length image ≡ 62 → over (set image 61 (n + length burst)) 30 (take 31 (over (drop 30 image) n burst)) ≡ added burst image
+  fits h long =
+      copied-back image (over (drop 30 image) n burst) (n + length burst) long (omega (arith, over-length (drop 30 image) n burst, length-drop 30 image))
+      ∙ rw (← counted, le-ltb 31 (n + length burst) h)
 
 pub added-length : (burst image : List ℕ) → length (added burst image) ≡ length image
 added-length burst image = go (ltb 31 (byte 61 image + length burst))

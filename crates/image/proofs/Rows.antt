@@ -1,4 +1,4 @@
--- An image, byte by byte: what holds of its bytes in a row holds of it; what a store leaves before it; and what is copied out.
+-- An image, byte by byte: what holds of its bytes in a row holds of it; what a store leaves before it; what is copied out, and back.
 use mathlib.Core.Path.{_≡_, refl, sym, ap, subst}
 use mathlib.Core.List.{List, [], _∷_}
 use Prim.Native.Nat.{ℕ, zero, suc, _+_, _≤_}
@@ -28,3 +28,10 @@ row-set k (suc n) i a s h =
 pub copied-out : (image : List ℕ) → length image ≡ 62 → over (replicate 32 0) 0 (take 32 (drop 30 image)) ≡ drop 30 image
 unfolding over
 copied-out image h = by-bytes 62 image h (λ i. over (replicate 32 0) 0 (take 32 (drop 30 i)) ≡ drop 30 i) refl
+
+-- .. and back: a count is stored and then the 31 bytes before it, or all 32 and then a count
+pub copied-back : (image tail : List ℕ) (n : ℕ) → length image ≡ 62 → length tail ≡ 32 → over (set image 61 n) 30 (take 31 tail) ≡ set (over image 30 tail) 61 n
+unfolding over
+copied-back image tail n h long =
+    by-bytes 62 image h (λ i. over (set i 61 n) 30 (take 31 tail) ≡ set (over i 30 tail) 61 n)
+    (by-bytes 32 tail long (λ t. over (set (row 0 62 image) 61 n) 30 (take 31 t) ≡ set (over (row 0 62 image) 30 t) 61 n) refl)

@@ -192,7 +192,8 @@ pub fn held(image: &[u8; IMAGE]) -> Fragments
     }
 }
 
-// A burst is held behind what is held; where that is more than a packet, that it is too long.
+// A burst is held behind what is held; where that is more than a packet, that it is too long. The count is stored before the bytes are copied: behind
+// that it would be kept in registers meanwhile.
 pub fn hold(image: &mut [u8; IMAGE], burst: &[u8])
     ensures { λ u. ⌜ now (image .exit) ≡ added (now (burst .entry)) (now (image .entry)) ⌝ }
 {
@@ -202,9 +203,9 @@ pub fn hold(image: &mut [u8; IMAGE], burst: &[u8])
         return;
     }
     let mut bytes = held_bytes(image);
-    lent::copy(&mut bytes, n, burst);
-    lent::copy(image, HELD, &bytes);
     image[COUNT] = (n + burst.len()) as u8;
+    lent::copy(&mut bytes, n, burst);
+    lent::copy(image, HELD, lent::part(&bytes, 0, CommandPacket::LENGTH));
 }
 
 fn put_numbers(image: &mut [u8; IMAGE], tag: u32, amount: u32)

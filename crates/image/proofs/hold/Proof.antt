@@ -1,8 +1,8 @@
 -- `image::hold` meets its contract.
 use mathlib.Core.Logic.{⊎-elim}
-use Prim.Native.Nat.{_-_}
+use Prim.Native.Nat.{_+_, _-_}
 use native.Mathlib.Omega.{arith}
-use lib.ListN.{length}
+use lib.ListN.{length, length-set}
 use borrow.Author.Tests.{ltb-true, ltb-false}
 use Rattle.image.proofs.Holding.{too-much, fits}
 use borrow.Author.Needs.{needs}
@@ -28,37 +28,42 @@ returns c =
 held-bytes-requires : tie.Need-held-bytes-requires
 held-bytes-requires c κs = search needs
 
+add-image : tie.Need-add-image
+add-image c = search needs
+
+cast-image : tie.Need-cast-image
+cast-image c =
+    let n = c .before .before .before .before .count-of .result in
+    let burst = c .before .before .before .before .before .before .before .args .burst .now in
+    omega (arith, c .before .before .before .if1 .left, ltb-false (31 - n) (length burst) (c .before .before .if2 .left))
+
+element-write-image-2 : tie.Need-element-write-image-2
+element-write-image-2 c = search needs
+
 slice-aggregate-copy : tie.Need-slice-aggregate-copy
 slice-aggregate-copy c = search needs
 
 copy-requires : tie.Need-copy-requires
 copy-requires c κs = search needs
 
-slice-aggregate-copy-2 : tie.Need-slice-aggregate-copy-2
-slice-aggregate-copy-2 c = search needs
+slice-aggregate-part : tie.Need-slice-aggregate-part
+slice-aggregate-part c = search needs
+
+part-requires : tie.Need-part-requires
+part-requires c κs = search needs
 
 copy-requires-2 : tie.Need-copy-requires-2
 copy-requires-2 c κs = search needs
 
-add-image : tie.Need-add-image
-add-image c = search needs
-
-cast-image : tie.Need-cast-image
-cast-image c =
-    let at = c .before .before .before .before .before .before .before .before .before .before .before .before .before .args in
-    let n = c .before .before .before .before .before .before .before .before .before .before .count-of .result in
-    omega (arith, c .before .before .before .before .before .before .before .before .before .if1 .left, ltb-false (31 - n) (length (at .burst .now)) (c .before .before .before .before .before .before .before .before .if2 .left))
-
-element-write-image-2 : tie.Need-element-write-image-2
-element-write-image-2 c = search needs
-
 returns-2 : tie.Need-returns-2
 returns-2 c =
-    let at = c .before .before .before .before .before .before .before .before .before .before .before .before .before .args in
-    let counted = c .before .before .before .before .before .before .before .before .before .before .count-of in
-    let most = ltb-false (31 - counted .result) (length (at .burst .now)) (c .before .before .before .before .before .before .before .before .if2 .left) in
-    rw (c .copy2 .ensures, c .before .before .before .before .copy .ensures, c .before .before .before .before .before .before .held-bytes .ensures)
-    (fits (at .burst .now) (at .image .now) (counted .ensures) (omega (arith, c .before .before .before .before .before .before .before .before .before .if1 .left)))
+    let held = c .before .before .before .before .before .before .before in
+    let at = held .before .before .before .before .before .before .before .args in
+    let counted = held .before .before .before .before .count-of in
+    let most = ltb-false (31 - counted .result) (length (at .burst .now)) (held .before .before .if2 .left) in
+    rw (c .copy2 .ensures, c .before .part .ensures .bytes, c .before .before .before .before .before .copy .ensures, held .held-bytes .ensures)
+    (fits (at .burst .now) (at .image .now) (counted .ensures) (omega (arith, held .before .before .before .if1 .left))
+    (omega (arith, c .before .before .before .copy-arg .given, length-set (at .image .now) 61 (counted .result + length (at .burst .now)))))
 
 pub hold-spec : {M : Type 1} → statement M
 hold-spec =
@@ -69,11 +74,12 @@ hold-spec =
     element-write-image
     returns
     held-bytes-requires
-    slice-aggregate-copy
-    copy-requires
-    slice-aggregate-copy-2
-    copy-requires-2
     add-image
     cast-image
     element-write-image-2
+    slice-aggregate-copy
+    copy-requires
+    slice-aggregate-part
+    part-requires
+    copy-requires-2
     returns-2)
