@@ -6,7 +6,7 @@ use Prim.Native.Nat.{ℕ, zero, suc, _+_, _<_, _≤_}
 use native.Mathlib.Omega.{arith}
 use lib.Dec.{leb, ltb}
 use lib.ListN.{length, set, take, drop, length-set, length-take, length-append, length-drop}
-use lib.Seq.{take-length, drop-length, take-append-le, getD-append-seam, getD-set-same, take-set-le, take-at, take-paste}
+use lib.Seq.{take-all, take-length, drop-length, take-append-le, getD-append-seam, getD-set-same, take-set-le, take-at, take-paste}
 use borrow.Author.Tests.{leb-true, leb-false, ltb-true, ltb-false, lt-ltb, le-ltb}
 use Rattle.rules.specs.Words.{byte, over}
 use Rattle.rules.specs.Held.{holding}
@@ -18,14 +18,15 @@ use Rattle.image.specs.Image.{heldOf, worldOf, added, BurstInStep, Behin
 
 -- ---- how a burst is added
 
-module _ (burst image : List ℕ) {n : ℕ} (counted : n ≡ byte 61 image) where
-  pub too-much : 31 < n + length burst → set image 61 32 ≡ added burst image
-  too-much h = rw (← counted, lt-ltb 31 (n + length burst) h)
+module _ (burst image : List ℕ) {came : List ℕ} {n : ℕ} (cut : came ≡ take 32 burst) (counted : n ≡ byte 61 image) where
+  pub too-much : 31 < n + length came → set image 61 32 ≡ added burst image
+  too-much h = rw (← counted, lt-ltb 31 (n + length burst) (omega (arith, ap length cut, length-take 32 burst)))
 
-  pub fits : n + length burst ≤ 31 → length image ≡ 62 → over (set image 61 (n + length burst)) 30 (take 31 (over (drop 30 image) n burst)) ≡ added burst image
+  pub fits : n + length came ≤ 31 → length image ≡ 62 → over (set image 61 (n + length came)) 30 (take 31 (over (drop 30 image) n came)) ≡ added burst image
   fits h long =
-      copied-back image (over (drop 30 image) n burst) (n + length burst) long (omega (arith, over-length (drop 30 image) n burst, length-drop 30 image))
-      ∙ rw (← counted, le-ltb 31 (n + length burst) h)
+      let whole : came ≡ burst = cut ∙ take-all 32 burst (omega (arith, ap length cut, length-take 32 burst)) in
+      rw (← whole, ← counted, le-ltb 31 (n + length came) h)
+      (copied-back image (over (drop 30 image) n came) (n + length came) long (omega (arith, over-length (drop 30 image) n came, length-drop 30 image)))
 
 pub added-length : (burst image : List ℕ) → length (added burst image) ≡ length image
 added-length burst image = go (ltb 31 (byte 61 image + length burst))

@@ -192,19 +192,21 @@ pub fn held(image: &[u8; IMAGE]) -> Fragments
     }
 }
 
-// A burst is held behind what is held; where that is more than a packet, that it is too long. The count is stored before the bytes are copied: behind
-// that it would be kept in registers meanwhile.
+// A burst is held behind what is held; where that is more than a packet, that it is too long. No more of it is looked at than makes it so. The count is
+// stored before the bytes are copied: behind that it would be kept in registers meanwhile.
 pub fn hold(image: &mut [u8; IMAGE], burst: &[u8])
     ensures { λ u. ⌜ now (image .exit) ≡ added (now (burst .entry)) (now (image .entry)) ⌝ }
 {
+    let came = lent::part(burst, 0, TOO_LONG as usize);
     let n = count_of(image) as usize;
-    if (n > CommandPacket::LENGTH) || (burst.len() > CommandPacket::LENGTH - n) {
+    let all = n + came.len();
+    if all > CommandPacket::LENGTH {
         image[COUNT] = TOO_LONG;
         return;
     }
     let mut bytes = held_bytes(image);
-    image[COUNT] = (n + burst.len()) as u8;
-    lent::copy(&mut bytes, n, burst);
+    image[COUNT] = all as u8;
+    lent::copy(&mut bytes, n, came);
     lent::copy(image, HELD, lent::part(&bytes, 0, CommandPacket::LENGTH));
 }
 
