@@ -74,7 +74,7 @@ dropped-apart bytes image n h =
     (by-bytes 62 image h (λ i. dropped (row 0 16 bytes ++ drop 16 i) ≡ row 0 16 bytes ++ drop 16 (dropped i)) refl)
 
 -- the bridge and its configuration bytes stand before what is held
-pub dropped-decodes : (image : List ℕ) → decode (dropped image) ≡ decode image
+dropped-decodes : (image : List ℕ) → decode (dropped image) ≡ decode image
 dropped-decodes image = ap (λ (r : List ℕ). decode (replicate 16 0 ++ r)) (row-set 16 14 61 0 image (omega arith))
 
 pub dropped-bytes : (image : List ℕ) → bytesOf (dropped image) ≡ bytesOf image

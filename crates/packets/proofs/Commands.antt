@@ -12,17 +12,27 @@ use Rattle.rules.specs.declared.Bridge.{Bridge}
 use Rattle.rules.specs.declared.Change.the-variants.{Stops}
 use Rattle.rules.specs.declared.CommandPacket.{CommandPacket}
 use Rattle.rules.specs.declared.Direction.{Direction}
-use Rattle.rules.specs.Words.{long, _if_, first}
+use Rattle.rules.specs.Words.{long, first}
 use Rattle.rules.specs.Packets.{commandLayout, commandOf, blockOf, valid, meaningful, directionOf, recognises}
 use Rattle.rules.specs.Operations.{codes, operationsOf}
-use Rattle.rules.specs.Answers.{packetAnswer}
+use Rattle.rules.specs.Held.{world}
+use Rattle.rules.specs.Answers.{unawaitedChecks, awaitedChecks, packetAnswer}
 use Rattle.rules.specs.Step.{Packet, operationsFor}
 use Rattle.rules.specs.Promise.{ToldOf}
+use Rattle.rules.proofs.Checks.{passed}
+use Rattle.rules.proofs.Demands.Mends.{met}
 use Rattle.rules.proofs.Promises.{packet-refused, packet-done}
 use Rattle.outcomes.specs.Outcomes.{AnswersOf}
 use Rattle.passthrough.specs.declared.Judgement.{Judgement}
 use Rattle.passthrough.specs.Judgements.{Judged, judgement, decided, judged}
 use Rattle.packets.specs.Awaited.{Awaits, takenAs}
+
+-- a bridge that awaits a packet, by the checks
+pub awaits : (b : Bridge) → first (unawaitedChecks b) ≡ 0 → Awaits b
+awaits b h =
+    let k = passed (unawaitedChecks b) refl h in
+    let free = met (world b [] []) (k .0) (k .1 .0) (k .1 .1 .0) in
+    record { configured = free .configured; runs = free .runs; awaits = free .awaits }
 
 -- "Valid: 31 bytes .."
 valid-length : (p : List ℕ) → valid p ≡ true → length p ≡ 31
@@ -42,7 +52,7 @@ block-length p h = rw length-drop (omega arith)
 module _ (b : Bridge) (signature : ℕ) (p room : List ℕ) (a : Awaits b) where
   -- the checks that are left of a packet that is awaited
   left-checks : packetAnswer b p (length (operationsFor signature p)) (length room)
-      ≡ first (13 if not (valid p) ∷ 14 if not (meaningful (commandOf p)) ∷ 15 if ltb (length room) (length (operationsFor signature p)) ∷ [])
+      ≡ first (awaitedChecks p (length (operationsFor signature p)) (length room))
   unfolding packetAnswer
   left-checks = rw (a .configured, a .awaits, a .runs)
 

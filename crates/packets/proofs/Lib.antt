@@ -1,2 +1,2 @@
-mod Commands
+pub mod Commands
 pub mod Unique

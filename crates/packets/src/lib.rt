@@ -1,9 +1,11 @@
-// Command packets: validity, meaning, direction, and what a packet changes.
+// Command packets: whether one is awaited, its validity, meaning and direction, and what it changes.
 ghost use mathlib.Core.Path.{_≡_};
 ghost use mathlib.Core.Bool.{true, false};
 ghost use lib.ListN.{length};
 ghost use Rattle.packets.specs.Awaited.{Awaits, takenAs};
 ghost use Rattle.outcomes.specs.Outcomes.{outcome, AnswersOf};
+ghost use Rattle.rules.specs.Words.{first};
+ghost use Rattle.rules.specs.Answers.{unawaitedChecks};
 ghost use Rattle.rules.specs.Step.{Packet};
 ghost use Rattle.rules.specs.Packets.{commandLayout, commandOf, valid, meaningful, directionOf, commandTaken};
 use outcomes::Outcome;
@@ -104,8 +106,8 @@ fn stopped(answer: u8) -> Outcome
     }
 }
 
-// A command packet that a bridge awaits: its block is the part that starts at byte 15.
-fn awaited(signature: u8, packet: &[u8], operations: &mut [u16]) -> Outcome
+// A command packet that a bridge awaits: its block is the part that starts at byte 15. `signature` is configuration byte 0x04.
+pub fn awaited(signature: u8, packet: &[u8], operations: &mut [u16]) -> Outcome
     ensures { λ r. ⌜ ((b : Bridge) → Awaits b → AnswersOf b signature (Packet (now (packet .entry))) (now (operations .entry)) r (now (operations .exit))) ⌝ }
 {
     if !is_valid(packet) {
@@ -126,19 +128,19 @@ fn awaited(signature: u8, packet: &[u8], operations: &mut [u16]) -> Outcome
     taken(judgement, c)
 }
 
-// `signature` is configuration byte 0x04.
-pub fn packet(b: Bridge, signature: u8, packet: &[u8], operations: &mut [u16]) -> Outcome
-    ensures { λ r. ⌜ AnswersOf b signature (Packet (now (packet .entry))) (now (operations .entry)) r (now (operations .exit)) ⌝ }
+// The answer to a packet that is not awaited, whatever it is; else 0.
+pub fn unawaited(b: Bridge) -> u8
+    ensures { λ r. ⌜ r ≡ first (unawaitedChecks b) ⌝ }
 {
     if !b.configured {
-        return refused(answers::UNCONFIGURED);
+        return answers::UNCONFIGURED;
     }
     let phase = b.phase;
     if outcomes::is_stopped(phase) | b.halts.outward {
-        return refused(answers::HALTED);
+        return answers::HALTED;
     }
     match phase {
-        Phase::Awaiting => awaited(signature, packet, operations),
+        Phase::Awaiting => answers::DONE,
         Phase::Busy {
             direction: _,
             tag: _,
@@ -149,6 +151,16 @@ pub fn packet(b: Bridge, signature: u8, packet: &[u8], operations: &mut [u16]) -
             residue: _,
             status: _,
         }
-        | Phase::Stopped { reset: _ } => refused(answers::WRONG_PHASE),
+        | Phase::Stopped { reset: _ } => answers::WRONG_PHASE,
     }
+}
+
+pub fn packet(b: Bridge, signature: u8, packet: &[u8], operations: &mut [u16]) -> Outcome
+    ensures { λ r. ⌜ AnswersOf b signature (Packet (now (packet .entry))) (now (operations .entry)) r (now (operations .exit)) ⌝ }
+{
+    let answer = unawaited(b);
+    if answer != answers::DONE {
+        return refused(answer);
+    }
+    awaited(signature, packet, operations)
 }

@@ -1,11 +1,11 @@
 -- Laws of the promise: what each event leaves that is refused, and that is done.
-use mathlib.Core.Path.{_≡_, refl}
+use mathlib.Core.Path.{_≡_, refl, _∙_}
 use mathlib.Core.Bool.{Bool, true, false, cond, not, _&&_, _||_, true≢false}
 use mathlib.Core.List.{List, []}
 use Prim.Native.Nat.{ℕ, _≤_}
 use lib.ListN.{length}
 use lib.Dec.{eqb, ltb}
-use borrow.Author.Tests.{ltb-false}
+use borrow.Author.Tests.{ltb-false, ne-eqb, not-true}
 use Rattle.rules.specs.declared.Bridge.{Bridge}
 use Rattle.rules.specs.declared.Change.{Change}
 use Rattle.rules.specs.declared.Change.the-variants.{Nothing, Sets, Awaits, Stops}
@@ -15,16 +15,16 @@ use Rattle.rules.specs.declared.Phase.the-variants.{StatusWaiting}
 use Rattle.rules.specs.declared.Request.{Request}
 use Rattle.rules.specs.declared.Setup.{Setup}
 use Rattle.rules.specs.declared.Stands.the-variants.{InRoom, InMemory}
-use Rattle.rules.specs.Words.{laid}
+use Rattle.rules.specs.Words.{laid, first}
 use Rattle.rules.specs.Held.{World, world}
 use Rattle.rules.specs.Descriptors.{firstString, placeIn}
 use Rattle.rules.specs.Requests.{Known, Describes, setupOf, requestOf, replyTo}
 use Rattle.rules.specs.Packets.{commandOf, recognises, commandTaken, statusPacket}
 use Rattle.rules.specs.Reports.{hostNumber, mismatch, reportTaken}
-use Rattle.rules.specs.Answers.{seenOf, requestAnswer, packetAnswer, reportAnswer, statusAnswer}
+use Rattle.rules.specs.Answers.{seenOf, requestAnswer, unawaitedChecks, awaitedChecks, packetAnswer, reportAnswer, statusAnswer}
 use Rattle.rules.specs.Step.{Event, BusReset, Control, Packet, Report, StatusRequest, Burst, EndMark, Outcome, operationsFor, answer, stands, done, damaged, change, step}
 use Rattle.rules.specs.Promise.{leftAt, left, handedOut, leaves, Told, ToldOf, served}
-use Rattle.rules.proofs.Checks.{in-room}
+use Rattle.rules.proofs.Checks.{answer-has, first-append, in-room}
 use Rattle.rules.proofs.Rows.{over-laid}
 use Rattle.rules.proofs.Replies.{reply-count, reply-fits}
 
@@ -88,6 +88,15 @@ module _ (b : Bridge) (signature : ℕ) (p room : List ℕ) where
 
   pub packet-refused : (n : ℕ) → packetAnswer b p needed (length room) ≡ n → done n ≡ false → ToldOf b signature (Packet p) room n 0 (refused n) room
   packet-refused n a d bytes memory h = refusal (world b bytes memory) (Packet p) room n (rw h a) d
+
+  -- .. by what is of the bridge alone
+  pub packet-unawaited : (n : ℕ) → n ≡ first (unawaitedChecks b) → (n ≡ 0 → ⊥) → ToldOf b signature (Packet p) room n 0 Nothing room
+  unfolding packetAnswer
+  packet-unawaited n a other =
+      let d : done n ≡ false = ne-eqb n 0 other in
+      let decided : packetAnswer b p needed (length room) ≡ n = first-append (unawaitedChecks b) (awaitedChecks p needed (length room)) refl ∙ rw (← a, d) in
+      let unharmed : damaged n ≡ false = not-true _ (rw (← a) at (answer-has (λ k. not (damaged k)) (unawaitedChecks b) refl)) in
+      rw unharmed at (packet-refused n decided d)
 
   pub packet-done : packetAnswer b p needed (length room) ≡ 0
       → ToldOf b signature (Packet p) room 0 needed (commandTaken (recognises signature p) (commandOf p)) (laid (operationsFor signature p) room)

@@ -65,16 +65,24 @@ requestAnswer seen memory setup host room =
 abbrev pub seenOf : World → Seen
 seenOf w = record { configured = w .bridge .configured; dock = w .bridge .dock; «first_string» = firstString (w .bytes) }
 
--- "For packets: 4, 11, 16, 13, 14, 15." `needed` is how many operations the packet makes.
-abbrev pub packetChecks : Bridge → List ℕ → ℕ → ℕ → List Check
-packetChecks b p needed room =
+-- "For packets: 4, 11, 16, 13, 14, 15." Those of a bridge that awaits none, whatever the packet is;
+abbrev pub unawaitedChecks : Bridge → List Check
+unawaitedChecks b =
     4 if not (b .configured) ∷
     11 if (isStopped (b .phase) || b .halts .outward) ∷
     16 if not (isAwaiting (b .phase)) ∷
+    []
+
+-- .. and those of a packet that is awaited, where `needed` is how many operations it makes.
+abbrev pub awaitedChecks : List ℕ → ℕ → ℕ → List Check
+awaitedChecks p needed room =
     13 if not (valid p) ∷
     14 if not (meaningful (commandOf p)) ∷
     15 if ltb room needed ∷
     []
+
+abbrev pub packetChecks : Bridge → List ℕ → ℕ → ℕ → List Check
+packetChecks b p needed room = unawaitedChecks b ++ awaitedChecks p needed room
 
 unfoldable pub packetAnswer : Bridge → List ℕ → ℕ → ℕ → ℕ
 packetAnswer b p needed room = first (packetChecks b p needed room)

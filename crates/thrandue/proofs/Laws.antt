@@ -1,5 +1,5 @@
 -- Laws of the exported calls: what is left in the image and returned, from what the event promises.
-use mathlib.Core.Path.{_≡_, sym, ap, _∙_}
+use mathlib.Core.Path.{_≡_, refl, sym, ap, _∙_}
 use mathlib.Core.Bool.{false}
 use mathlib.Core.List.{List, [], _++_}
 use Prim.Native.Nat.{ℕ, _+_, _≤_}
@@ -7,19 +7,24 @@ use lib.ListN.{length, take, drop, take-append-drop}
 use lib.Seq.{length-take-le}
 use Rattle.rules.specs.declared.Bridge.{Bridge}
 use Rattle.rules.specs.declared.Request.{Request}
-use Rattle.rules.specs.declared.Change.the-variants.{Nothing}
+use Rattle.rules.specs.declared.Change.the-variants.{Nothing, Drops}
 use Rattle.rules.specs.declared.Setup.{Setup}
 use Rattle.rules.specs.declared.Stands.the-variants.{InRoom, InMemory}
 use Rattle.rules.specs.declared.addresses.Address.{Address}
-use Rattle.rules.specs.Words.{byte}
+use Rattle.rules.specs.Words.{byte, first}
 use Rattle.rules.specs.Held.{world}
+use Rattle.rules.specs.Packets.{signatureOf}
 use Rattle.rules.specs.Bursts.{kept}
+use Rattle.rules.specs.Answers.{unawaitedChecks}
 use Rattle.rules.specs.Step.{Event, Control, Packet, Burst, EndMark, step, change}
 use Rattle.rules.specs.Promise.{leftAt, leaves, served}
 use Rattle.rules.specs.Demands.Bursts.{isEndMark}
+use Rattle.rules.proofs.Promises.{packet-unawaited}
 use Rattle.rules.proofs.Bursts.{held-length, leaves-unheld, served-unheld, end-mark-leaves}
 use Rattle.outcomes.specs.declared.Outcome.{Outcome}
-use Rattle.outcomes.specs.Outcomes.{leftBy}
+use Rattle.outcomes.specs.Outcomes.{outcome, leftBy}
+use Rattle.packets.specs.Awaited.{Awaits}
+use Rattle.packets.proofs.Commands.{awaits}
 use Rattle.image.specs.declared.Fragments.{Fragments}
 use Rattle.image.specs.Image.{bytesOf, heldOf, decode, worldOf, heldIn, put, added}
 use Rattle.thrandue.specs.Calls.{called, returns, holds, inImage, calls, CallTold}
@@ -64,6 +69,18 @@ module _ (image memory : List ℕ) (setup host room : List ℕ) where
       rw r
       (ap (λ (i : List ℕ). called (returns 0 n (InMemory at)) i memory room) (sym (take-append-drop 16 image))
       ∙ ap (inImage (Control setup host (length room)) image) l)
+
+-- ---- a packet, by what the checks of the bridge alone say, of the state as it was loaded
+
+module _ (image : List ℕ) {n : ℕ} {b : Bridge} (says : n ≡ first (unawaitedChecks b)) (loaded : b ≡ decode image) where
+  pub unawaited-told : (p room : List ℕ) → (n ≡ 0 → ⊥) → {returned : ℕ} {image' : List ℕ}
+      → (returned ≡ returns n 0 InRoom) × (image' ≡ put Drops image) → CallTold image (Packet p) room returned image' room
+  unawaited-told p room other r memory =
+      told image memory (Packet p) room (outcome n 0 Nothing) refl
+      (packet-unawaited (decode image) (signatureOf (bytesOf image)) p room n (rw loaded at says) other (bytesOf image) memory refl) r
+
+  pub awaits-told : n ≡ 0 → Awaits (decode image)
+  awaits-told z = awaits (decode image) (sym (rw loaded at says) ∙ z)
 
 -- ---- a packet in bursts
 

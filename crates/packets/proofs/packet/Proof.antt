@@ -1,75 +1,37 @@
 -- `packets::packet` meets its contract.
-use mathlib.Core.Path.{refl}
-use borrow.Author.Tests.{not-true, not-false}
-use Rattle.rules.specs.Answers.{packetAnswer}
-use Rattle.rules.proofs.Promises.{packet-refused}
-use Rattle.outcomes.proofs.Phases.{none-awaits, neither}
+use mathlib.Core.Path.{sym, _∙_}
+use Rattle.rules.proofs.Promises.{packet-unawaited}
+use Rattle.packets.proofs.Commands.{awaits}
 use borrow.Author.Needs.{needs}
 use Rattle.packets.proofs.packet.Statement.{statement}
 use Rattle.packets.proofs.packet.Tie as tie
+
+unawaited-requires : tie.Need-unawaited-requires
+unawaited-requires c κs = search needs
 
 refused-requires : tie.Need-refused-requires
 refused-requires c κs = search needs
 
 returns : tie.Need-returns
-unfolding packetAnswer
-returns c = rw (c .refused .ensures) (packet-refused _ _ _ _ 4 (rw (not-true (c .before .before .before .before .before .args .b .configured) (c .before .if1 .taken))) refl)
-
-is-stopped-requires : tie.Need-is-stopped-requires
-is-stopped-requires c κs = search needs
-
-refused-requires-2 : tie.Need-refused-requires-2
-refused-requires-2 c κs = search needs
-
-returns-2 : tie.Need-returns-2
-unfolding packetAnswer
-returns-2 c =
-    let b = c .before .before .before .before .before .before .before .before .args .b in
-    rw (c .refused2 .ensures)
-    (packet-refused _ _ _ _ 11 (rw (not-false (b .configured) (c .before .before .before .before .if1 .left), ← c .before .before .before .is-stopped .ensures, c .before .if2 .taken)) refl)
-
-enum-told : tie.Need-enum-told
-enum-told c = search needs
+returns c =
+    let at = c .before .before .before .before .before .args in
+    let answer = c .before .before .unawaited in
+    rw (c .refused .ensures)
+    (packet-unawaited (at .b) (at .signature) (at .packet .now) (at .operations .now) (answer .result) (answer .ensures) (c .before .if1 .taken))
 
 awaited-requires : tie.Need-awaited-requires
 awaited-requires c κs = search needs
 
-refused-requires-3 : tie.Need-refused-requires-3
-refused-requires-3 c κs = search needs
-
 same-length : tie.Need-same-length
 same-length c = search needs
 
-returns-3 : tie.Need-returns-3
-returns-3 c =
-    let b = c .before .before .before .before .before .before .before .before .before .before .before .before .before .args .b in
-    c .before .before .awaited .ensures b
-    (record {
-      configured = not-false (b .configured) (c .before .before .before .before .before .before .before .before .before .if1 .left);
-      runs = neither (c .before .before .before .before .before .before .before .before .is-stopped .result) (b .halts .outward) (c .before .before .before .before .before .before .if2 .left) .1;
-      awaits = c .before .before .before .before .enum-told .given .1;
-    })
-
-returns-4 : tie.Need-returns-4
-unfolding packetAnswer
-returns-4 c =
-    let b = c .before .before .before .before .before .before .before .before .before .args .b in
-    rw (c .refused3 .ensures)
-    (packet-refused _ _ _ _ 16
-    (rw (not-false (b .configured) (c .before .before .before .before .before .if1 .left), ← c .before .before .before .before .is-stopped .ensures, c .before .before .if2 .left, none-awaits (b .phase) (c .before .match .keys2))) refl)
+returns-2 : tie.Need-returns-2
+returns-2 c =
+    let b = c .before .before .before .before .before .before .before .before .args .b in
+    let answer = c .before .before .before .before .before .unawaited in
+    c .before .before .awaited .ensures b (awaits b (sym (answer .ensures) ∙ c .before .before .before .before .if1 .left))
 
 pub packet-spec : {M : Type 1} → statement M
 packet-spec =
     tie.close
-    (tie.spec
-    refused-requires
-    returns
-    is-stopped-requires
-    refused-requires-2
-    returns-2
-    enum-told
-    awaited-requires
-    refused-requires-3
-    same-length
-    returns-3
-    returns-4)
+    (tie.spec unawaited-requires refused-requires returns awaited-requires same-length returns-2)

@@ -271,7 +271,7 @@ report-mends w direction failed amount a =
     all-passed (reportChecks (w .bridge) 0 0 0) (d .0, (d .1 .0, (refl, tt)))
 
 -- what a packet that is judged has met
-met : (w : World) → not (w .bridge .configured) ≡ false → (isStopped (w .bridge .phase) || w .bridge .halts .outward) ≡ false
+pub met : (w : World) → not (w .bridge .configured) ≡ false → (isStopped (w .bridge .phase) || w .bridge .halts .outward) ≡ false
     → not (isAwaiting (w .bridge .phase)) ≡ false → Free w
 met w c r a =
     record {

@@ -5,7 +5,7 @@ use lib.Seq.{length-take-le}
 use Rattle.rules.specs.Packets.{signatureOf}
 use Rattle.rules.specs.Step.{Packet}
 use Rattle.image.specs.Image.{bytesOf, decode, put}
-use Rattle.image.proofs.InStep.{dropped-decodes, dropped-bytes}
+use Rattle.image.proofs.InStep.{dropped-bytes}
 use Rattle.thrandue.proofs.Laws.{told}
 use borrow.Author.Needs.{needs}
 use Rattle.thrandue.proofs.commands.take.Statement.{statement}
@@ -14,19 +14,16 @@ use Rattle.thrandue.proofs.commands.take.Tie as tie
 make-requires : tie.Need-make-requires
 make-requires c κs = search needs
 
-load-requires : tie.Need-load-requires
-load-requires c κs = search needs
-
 signature-of-requires : tie.Need-signature-of-requires
 signature-of-requires c κs = search needs
 
-slice-aggregate-packet : tie.Need-slice-aggregate-packet
-slice-aggregate-packet c =
-    let start = c .before .before .before .before .before .before .before .before .before .before in
-    sym (length-take-le (start .args .n) (start .args .bytes .now) (start .pre))
+slice-aggregate-awaited : tie.Need-slice-aggregate-awaited
+slice-aggregate-awaited c =
+    let start = c .before .before .before .before .before .before .before .before in
+    sym (length-take-le (start .args .n) (start .args .bytes .now) (start .pre .0))
 
-packet-requires : tie.Need-packet-requires
-packet-requires c κs = search needs
+awaited-requires : tie.Need-awaited-requires
+awaited-requires c κs = search needs
 
 leave-requires : tie.Need-leave-requires
 leave-requires c κs = search needs
@@ -36,25 +33,24 @@ same-length c = search needs
 
 returns : tie.Need-returns
 returns c =
-    let at = c .before .before .before .before .before .before .before .before .before .before .before .before .before .before .before .args in
+    let start = c .before .before .before .before .before .before .before .before .before .before .before .before .before in
+    let at = start .args in
     let image = at .image .now in
-    let packet = c .before .before .before .packet in
-    let dropped = c .before .before .before .before .before .before .before .before .before .before .before .make .ensures in
+    let awaited = c .before .before .before .awaited in
+    let dropped = c .before .before .before .before .before .before .before .before .before .make .ensures in
     let signature = c .before .before .before .before .before .before .before .signature-of .ensures ∙ ap (λ i. signatureOf (bytesOf i)) dropped ∙ ap signatureOf (dropped-bytes image) in
-    let loaded = c .before .before .before .before .before .before .before .before .before .load .ensures ∙ ap decode dropped ∙ dropped-decodes image in
-    λ memory. told image memory (Packet (take (at .n) (at .bytes .now))) (at .operations .now) (packet .result) refl
-    (rw loaded at (packet .ensures (bytesOf image) memory (sym signature)))
-    (c .leave .ensures .0, c .leave .ensures .1 ∙ ap (put (packet .result .change)) dropped)
+    λ memory. told image memory (Packet (take (at .n) (at .bytes .now))) (at .operations .now) (awaited .result) refl
+    (awaited .ensures (decode image) (start .pre .1) (bytesOf image) memory (sym signature))
+    (c .leave .ensures .0, c .leave .ensures .1 ∙ ap (put (awaited .result .change)) dropped)
 
 pub take-spec : {M : Type 1} → statement M
 take-spec =
     tie.close
     (tie.spec
     make-requires
-    load-requires
     signature-of-requires
-    slice-aggregate-packet
-    packet-requires
+    slice-aggregate-awaited
+    awaited-requires
     leave-requires
     same-length
     returns)
