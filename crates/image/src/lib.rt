@@ -5,7 +5,7 @@ ghost use lib.ListN.{set, drop};
 ghost use Rattle.rules.specs.Words.{long, byte};
 ghost use Rattle.rules.specs.Answers.{seenOf};
 ghost use Rattle.rules.specs.Packets.{signatureOf};
-ghost use Rattle.image.specs.Image.{bytesOf, isMarked, directionFrom, phaseFrom, dockOf, decode, worldOf, heldIn, powered, numbered, phased, marked, calm, put, added};
+ghost use Rattle.image.specs.Image.{bytesOf, isMarked, directionFrom, phaseFrom, dockOf, decode, worldOf, heldIn, powered, numbered, phased, marked, dropped, calm, put, added};
 use rules::Bridge;
 use rules::Change;
 use rules::CommandPacket;
@@ -244,13 +244,45 @@ fn put_halts(image: &mut [u8; IMAGE], mark: u8)
     image[INWARD] = mark;
 }
 
+fn drop_held(image: &mut [u8; IMAGE])
+    ensures { λ u. ⌜ now (image .exit) ≡ dropped (now (image .entry)) ⌝ }
+{
+    image[COUNT] = 0;
+}
+
 // Awaiting, no halts, nothing held.
 fn put_calm(image: &mut [u8; IMAGE])
     ensures { λ u. ⌜ now (image .exit) ≡ calm (now (image .entry)) ⌝ }
 {
     put_halts(image, 0);
     image[PHASE] = AWAITING;
-    image[COUNT] = 0;
+    drop_held(image);
+}
+
+// A command begins.
+fn put_begun(image: &mut [u8; IMAGE], direction: Direction, tag: u32, length: u32)
+    ensures { λ u. ⌜ now (image .exit) ≡ put (Change.Begins direction tag length) (now (image .entry)) ⌝ }
+{
+    put_numbers(image, tag, length);
+    put_phase(image, BUSY, direction.is_in() as u8);
+}
+
+// A command finishes, and the pipe of its direction is halted or not.
+fn put_finished(
+    image: &mut [u8; IMAGE],
+    direction: Direction,
+    halts: bool,
+    status: u8,
+    tag: u32,
+    residue: u32,
+)
+    ensures { λ u. ⌜ now (image .exit) ≡ put (Change.Finishes direction halts status tag residue) (now (image .entry)) ⌝ }
+{
+    put_numbers(image, tag, residue);
+    put_phase(image, STATUS_WAITING, status);
+    if halts {
+        put_halt(image, direction, 1);
+    }
 }
 
 // A change is made, in place. What an earlier phase left where this one has nothing stays.
@@ -268,39 +300,28 @@ pub fn make(image: &mut [u8; IMAGE], change: Change)
         }
         Change::Resets => {
             image[PHASE] = AWAITING;
-            image[COUNT] = 0;
+            drop_held(image);
         }
-        Change::Drops => {
-            image[COUNT] = 0;
-        }
+        Change::Drops => drop_held(image),
         Change::Begins {
             direction,
             tag,
             length,
-        } => {
-            put_numbers(image, tag, length);
-            put_phase(image, BUSY, direction.is_in() as u8);
-        }
+        } => put_begun(image, direction, tag, length),
         Change::Finishes {
             direction,
             halts,
             status,
             tag,
             residue,
-        } => {
-            put_numbers(image, tag, residue);
-            put_phase(image, STATUS_WAITING, status);
-            if halts {
-                put_halt(image, direction, 1);
-            }
-        }
+        } => put_finished(image, direction, halts, status, tag, residue),
         Change::Stops => {
             put_halts(image, 1);
             put_phase(image, STOPPED, 0);
         }
         Change::Notes => {
             put_phase(image, STOPPED, 1);
-            image[COUNT] = 0;
+            drop_held(image);
         }
         Change::Clears(direction) => put_halt(image, direction, 0),
         Change::Ends => put_calm(image),

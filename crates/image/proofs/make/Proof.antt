@@ -31,41 +31,26 @@ enum-told-3 c = search needs
 element-write-image-3 : tie.Need-element-write-image-3
 element-write-image-3 c = search needs
 
-element-write-image-4 : tie.Need-element-write-image-4
-element-write-image-4 c = search needs
+drop-held-requires : tie.Need-drop-held-requires
+drop-held-requires c κs = search needs
 
 enum-told-4 : tie.Need-enum-told-4
 enum-told-4 c = search needs
 
-element-write-image-5 : tie.Need-element-write-image-5
-element-write-image-5 c = search needs
+drop-held-requires-2 : tie.Need-drop-held-requires-2
+drop-held-requires-2 c κs = search needs
 
 enum-known-change-2 : tie.Need-enum-known-change-2
 enum-known-change-2 c = search needs
 
-put-numbers-requires : tie.Need-put-numbers-requires
-put-numbers-requires c κs = search needs
-
-is-in-requires : tie.Need-is-in-requires
-is-in-requires c κs = search needs
-
-cast-put-phase : tie.Need-cast-put-phase
-cast-put-phase c = search needs
-
-put-phase-requires : tie.Need-put-phase-requires
-put-phase-requires c κs = search needs
+put-begun-requires : tie.Need-put-begun-requires
+put-begun-requires c κs = search needs
 
 enum-known-change-3 : tie.Need-enum-known-change-3
 enum-known-change-3 c = search needs
 
-put-numbers-requires-2 : tie.Need-put-numbers-requires-2
-put-numbers-requires-2 c κs = search needs
-
-put-phase-requires-2 : tie.Need-put-phase-requires-2
-put-phase-requires-2 c κs = search needs
-
-put-halt-requires : tie.Need-put-halt-requires
-put-halt-requires c κs = search needs
+put-finished-requires : tie.Need-put-finished-requires
+put-finished-requires c κs = search needs
 
 enum-told-5 : tie.Need-enum-told-5
 enum-told-5 c = search needs
@@ -73,23 +58,23 @@ enum-told-5 c = search needs
 put-halts-requires : tie.Need-put-halts-requires
 put-halts-requires c κs = search needs
 
-put-phase-requires-3 : tie.Need-put-phase-requires-3
-put-phase-requires-3 c κs = search needs
+put-phase-requires : tie.Need-put-phase-requires
+put-phase-requires c κs = search needs
 
 enum-told-6 : tie.Need-enum-told-6
 enum-told-6 c = search needs
 
-put-phase-requires-4 : tie.Need-put-phase-requires-4
-put-phase-requires-4 c κs = search needs
+put-phase-requires-2 : tie.Need-put-phase-requires-2
+put-phase-requires-2 c κs = search needs
 
-element-write-image-6 : tie.Need-element-write-image-6
-element-write-image-6 c = search needs
+drop-held-requires-3 : tie.Need-drop-held-requires-3
+drop-held-requires-3 c κs = search needs
 
 enum-known-change-4 : tie.Need-enum-known-change-4
 enum-known-change-4 c = search needs
 
-put-halt-requires-2 : tie.Need-put-halt-requires-2
-put-halt-requires-2 c κs = search needs
+put-halt-requires : tie.Need-put-halt-requires
+put-halt-requires c κs = search needs
 
 enum-told-7 : tie.Need-enum-told-7
 enum-told-7 c = search needs
@@ -107,31 +92,28 @@ returns-3 : tie.Need-returns-3
 returns-3 c = rw (c .enum-told2 .given .1)
 
 returns-4 : tie.Need-returns-4
-returns-4 c = rw (c .enum-told3 .given .1)
+returns-4 c = rw (c .before .before .enum-told3 .given .1, c .drop-held .ensures)
 
 returns-5 : tie.Need-returns-5
-returns-5 c = rw (c .enum-told4 .given .1)
+returns-5 c = search needs
 
 returns-6 : tie.Need-returns-6
-returns-6 c = rw (c .before .before .before .before .before .before .change2 .given .1, c .put-phase .ensures, c .before .before .before .put-numbers .ensures, bool-byte, c .before .is-in .ensures)
+returns-6 c = rw (c .before .before .before .change2 .given .1) (c .put-begun .ensures)
 
 returns-7 : tie.Need-returns-7
-returns-7 c = rw (c .before .before .before .before .before .before .before .before .change3 .given .1, c .before .before .if1 .taken, c .put-halt .ensures, c .before .before .before .put-phase2 .ensures, c .before .before .before .before .before .put-numbers2 .ensures)
+returns-7 c = rw (c .before .before .before .change3 .given .1) (c .put-finished .ensures)
 
 returns-8 : tie.Need-returns-8
-returns-8 c = rw (c .before .before .before .before .before .before .change3 .given .1, c .if1 .left, c .before .put-phase2 .ensures, c .before .before .before .put-numbers2 .ensures)
+returns-8 c = rw (c .before .before .before .before .enum-told5 .given .1, c .put-phase .ensures, c .before .before .put-halts .ensures)
 
 returns-9 : tie.Need-returns-9
-returns-9 c = rw (c .before .before .before .before .enum-told5 .given .1, c .put-phase3 .ensures, c .before .before .put-halts .ensures)
+returns-9 c = rw (c .before .before .before .before .enum-told6 .given .1, c .drop-held3 .ensures, c .before .before .put-phase2 .ensures)
 
 returns-10 : tie.Need-returns-10
-returns-10 c = rw (c .before .before .enum-told6 .given .1, c .put-phase4 .ensures)
+returns-10 c = rw (c .before .before .before .change4 .given .1) (c .put-halt .ensures)
 
 returns-11 : tie.Need-returns-11
-returns-11 c = rw (c .before .before .before .change4 .given .1) (c .put-halt2 .ensures)
-
-returns-12 : tie.Need-returns-12
-returns-12 c = rw (c .before .before .enum-told7 .given .1) (c .put-calm2 .ensures)
+returns-11 c = search needs
 
 pub make-spec : {M : Type 1} → statement M
 make-spec =
@@ -146,26 +128,21 @@ make-spec =
     element-write-image-2
     enum-told-3
     element-write-image-3
-    element-write-image-4
+    drop-held-requires
     enum-told-4
-    element-write-image-5
+    drop-held-requires-2
     enum-known-change-2
-    put-numbers-requires
-    is-in-requires
-    cast-put-phase
-    put-phase-requires
+    put-begun-requires
     enum-known-change-3
-    put-numbers-requires-2
-    put-phase-requires-2
-    put-halt-requires
+    put-finished-requires
     enum-told-5
     put-halts-requires
-    put-phase-requires-3
+    put-phase-requires
     enum-told-6
-    put-phase-requires-4
-    element-write-image-6
+    put-phase-requires-2
+    drop-held-requires-3
     enum-known-change-4
-    put-halt-requires-2
+    put-halt-requires
     enum-told-7
     put-calm-requires-2
     returns
@@ -178,5 +155,4 @@ make-spec =
     returns-8
     returns-9
     returns-10
-    returns-11
-    returns-12)
+    returns-11)

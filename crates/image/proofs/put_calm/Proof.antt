@@ -9,11 +9,12 @@ put-halts-requires c κs = search needs
 element-write-image : tie.Need-element-write-image
 element-write-image c = search needs
 
-element-write-image-2 : tie.Need-element-write-image-2
-element-write-image-2 c = search needs
+drop-held-requires : tie.Need-drop-held-requires
+drop-held-requires c κs = search needs
 
 returns : tie.Need-returns
-returns c = rw (c .put-halts .ensures)
+returns c = rw (c .drop-held .ensures, c .before .before .put-halts .ensures)
 
 pub put-calm-spec : {M : Type 1} → statement M
-put-calm-spec = tie.close (tie.spec put-halts-requires element-write-image element-write-image-2 returns)
+put-calm-spec =
+    tie.close (tie.spec put-halts-requires element-write-image drop-held-requires returns)
