@@ -14,7 +14,7 @@ use Rattle.rules.specs.declared.Phase.{Phase}
 use Rattle.rules.specs.declared.Phase.the-variants.{StatusWaiting}
 use Rattle.rules.specs.declared.Request.{Request}
 use Rattle.rules.specs.declared.Setup.{Setup}
-use Rattle.rules.specs.declared.Stands.the-variants.{InRoom, InMemory}
+use Rattle.rules.specs.declared.Stands.the-variants.{InMemory}
 use Rattle.rules.specs.Words.{laid, first}
 use Rattle.rules.specs.Held.{World, world}
 use Rattle.rules.specs.Descriptors.{firstString, placeIn}
@@ -22,7 +22,7 @@ use Rattle.rules.specs.Requests.{Known, Describes, setupOf, requestOf, r
 use Rattle.rules.specs.Packets.{commandOf, recognises, commandTaken, statusPacket}
 use Rattle.rules.specs.Reports.{hostNumber, mismatch, reportTaken}
 use Rattle.rules.specs.Answers.{seenOf, requestAnswer, unawaitedChecks, awaitedChecks, packetAnswer, reportAnswer, statusAnswer}
-use Rattle.rules.specs.Step.{Event, BusReset, Control, Packet, Report, StatusRequest, Burst, EndMark, Outcome, operationsFor, answer, stands, done, damaged, change, step}
+use Rattle.rules.specs.Step.{Event, BusReset, Control, Packet, Report, StatusRequest, Burst, EndMark, Outcome, operationsFor, answer, done, damaged, change, step}
 use Rattle.rules.specs.Promise.{leftAt, left, handedOut, leaves, Told, ToldOf, served}
 use Rattle.rules.proofs.Checks.{answer-has, first-append, in-room}
 use Rattle.rules.proofs.Rows.{over-laid}
