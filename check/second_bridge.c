@@ -105,6 +105,11 @@ enum {
     DEV_BIT = 0x10
 };
 
+/* What drives built to the early ATA standards expect to be one in the device register. */
+enum {
+    DEVICE_ONES = 0xA0
+};
+
 enum {
     OPERATION_POLL = 0x0100,
     OPERATION_SELECT = 0x0200,
@@ -452,7 +457,7 @@ static bool recognised(const uint8_t *block, uint8_t block_length, uint8_t signa
 }
 
 static uint16_t select_operation(const uint8_t *block) {
-    uint8_t device = block[BLOCK_SELECTED] & DEVICE_SELECTED ? block[BLOCK_DEVICE] : 0;
+    uint8_t device = block[BLOCK_SELECTED] & DEVICE_SELECTED ? block[BLOCK_DEVICE] : DEVICE_ONES;
     uint8_t dev = block[BLOCK_ACTION] & DEV_OVERRIDE ? block[BLOCK_DEVICE] & DEV_BIT : 0;
     return (uint16_t)(OPERATION_SELECT | (device & ~DEV_BIT) | dev);
 }

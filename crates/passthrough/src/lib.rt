@@ -10,7 +10,7 @@ ghost use Rattle.passthrough.specs.Rows.{PutOperations, FitsOperations, 
 ghost use Rattle.passthrough.specs.Judgements.{judgement, judged};
 ghost use Rattle.rules.specs.Words.{byte, bit as bitTest, bitOf, laid};
 ghost use Rattle.rules.specs.Packets.{readable, recognised};
-ghost use Rattle.rules.specs.Operations.{Operation, Poll, Transfer, coded, code, codes, only, withBit4, transferByte, selects, commanded, writeBlock, readBlock, operationsOf};
+ghost use Rattle.rules.specs.Operations.{Operation, Poll, Transfer, coded, code, codes, only, deviceByte, transferByte, selects, commanded, writeBlock, readBlock, operationsOf};
 use rules::Direction;
 
 // How a block is judged: not recognised; recognised, with less room than its operations need; or made, and how many they are.
@@ -63,6 +63,9 @@ const DEVICE: u8 = 6;
 
 const COMMAND: u8 = 7;
 
+// The bits of the device register that drives built to the early ATA standards expect to be one.
+const DEVICE_ONES: u8 = 0xA0;
+
 fn bit(byte: u8, k: u8) -> u8
     requires { ⌜ k < 8 ⌝ }
     ensures { λ r. ⌜ r ≡ bitOf k byte ⌝ }
@@ -77,12 +80,12 @@ fn is_set(byte: u8, k: u8) -> bool
     bit(byte, k) == 1
 }
 
-// The value if bit k of the byte is set, else 0.
-fn if_set(byte: u8, k: u8, value: u8) -> u8
+// The value if bit k of the byte is set, else the other.
+fn if_set(byte: u8, k: u8, value: u8, other: u8) -> u8
     requires { ⌜ k < 8 ⌝ }
-    ensures { λ r. ⌜ r ≡ cond (bitTest k byte) value 0 ⌝ }
+    ensures { λ r. ⌜ r ≡ cond (bitTest k byte) value other ⌝ }
 {
-    if is_set(byte, k) { value } else { 0 }
+    if is_set(byte, k) { value } else { other }
 }
 
 // What a block that reads registers must be.
@@ -138,10 +141,10 @@ fn put(operations: &mut [u16], at: usize, on: bool, kind: u8, operand: u8) -> us
 
 // `device` is byte 11.
 fn select_byte(action: u8, selection: u8, device: u8) -> u8
-    ensures { λ r. ⌜ r ≡ withBit4 (cond (bitTest 5 action) (bitOf 4 device) 0) (cond (bitTest 6 selection) device 0) ⌝ }
+    ensures { λ r. ⌜ r ≡ deviceByte action selection device ⌝ }
 {
-    let own = if_set(action, DEV_OVERRIDE, bit(device, 4));
-    let byte = if_set(selection, DEVICE, device);
+    let own = if_set(action, DEV_OVERRIDE, bit(device, 4), 0);
+    let byte = if_set(selection, DEVICE, device, DEVICE_ONES);
     byte - 16 * bit(byte, 4) + 16 * own
 }
 

@@ -51,9 +51,12 @@ polls block = only (not (bit 2 (action block))) Poll
 abbrev pub withBit4 : ℕ → ℕ → ℕ
 withBit4 new b = b - 16 * bitOf 4 b + 16 * new
 
+-- Request 4: "When register 6 isn't selected we send 0x00 or 0x10. It should be 0xA0 or 0xB0." Of the action, byte 3 and byte 11.
+abbrev pub deviceByte : ℕ → ℕ → ℕ → ℕ
+deviceByte act registers device = withBit4 (cond (bit 5 act) (bitOf 4 device) 0) (cond (bit 6 registers) device 0xA0)
+
 abbrev pub selectByte : List ℕ → ℕ
-selectByte block =
-    withBit4 (cond (bit 5 (action block)) (bitOf 4 (byte 11 block)) 0) (cond (selected block 6) (byte 11 block) 0)
+selectByte block = deviceByte (action block) (byte 3 block) (byte 11 block)
 
 abbrev pub selects : List ℕ → List Operation
 selects block = Select (selectByte block) ∷ []

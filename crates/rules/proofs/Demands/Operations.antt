@@ -1,8 +1,9 @@
 -- Demand 2, operations: a block's list is arranged from a few parts, and each demand is a law of a part or of the arrangement.
-use mathlib.Core.Path.{_≡_, refl, sym, _∙_}
+use mathlib.Core.Path.{_≡_, refl, sym, ap, _∙_}
 use mathlib.Core.Bool.{Bool, true, false, cond, not}
 use mathlib.Core.List.{List, [], _∷_, _++_, append-assoc, append-nil}
-use Prim.Native.Nat.{ℕ, _+_, _-_, _*_, _<_, _≤_}
+use Prim.Native.Nat.{ℕ, zero, suc, _+_, _-_, _*_, _/_, _^_, _<_, _≤_}
+use native.Mathlib.Nat.{div-div-eq-div-mul, pow-suc}
 use native.Mathlib.Omega.{arith}
 use lib.ListN.{length, length-append}
 use lib.Dec.{eqb, ltb}
@@ -13,7 +14,7 @@ use Rattle.rules.specs.Words.{byte, bit, bitOf, one}
 use Rattle.rules.specs.Operations.{Operation, Poll, Select, Write, Read, Transfer}
 use Rattle.rules.specs.Operations.{action, selected, content, only, withBit4, selectByte, transferByte, operationsOf}
 use Rattle.rules.specs.Step.{change, step, rules}
-use Rattle.rules.specs.Demands.Operations.{ExactOperations, Differ, Sets, PollBit, SelectLast, SelectBit, Weighs}
+use Rattle.rules.specs.Demands.Operations.{ExactOperations, Differ, Sets, PollBit, SelectLast, selectsIn, SelectBits, SelectBit, Weighs}
 use Rattle.rules.specs.Demands.Operations.{TransferBits, TransferWay, TransferNeedsLength, tally, Counted, Listed}
 
 pub exact-operations : ExactOperations rules
@@ -53,6 +54,77 @@ rest block j = byte (3 + j) block
 made-of : (block : List ℕ) (l : ℕ) (d : Direction) → operationsOf block l d ≡ made (bits block) (rest block) l (selectByte block) (transferByte (action block) d)
 unfolding operationsOf arranged
 made-of block l d = refl
+
+-- ---- the select of every block
+
+selects-append : (xs ys : List Operation) → selectsIn (xs ++ ys) ≡ selectsIn xs ++ selectsIn ys
+selects-append [] ys = refl
+selects-append (Poll ∷ xs) ys = selects-append xs ys
+selects-append (Select operand ∷ xs) ys = ap (λ (l : List ℕ). operand ∷ l) (selects-append xs ys)
+selects-append (Write register content ∷ xs) ys = selects-append xs ys
+selects-append (Read register ∷ xs) ys = selects-append xs ys
+selects-append (Transfer operand ∷ xs) ys = selects-append xs ys
+
+-- a list without a select, of one operation or of one for each register
+abbrev NoSelect : List Operation → Type 0
+NoSelect os = selectsIn os ≡ []
+
+none-only : (t : Bool) (o : Operation) → NoSelect (o ∷ []) → NoSelect (only t o)
+none-only true o h = h
+none-only false o h = refl
+
+none-picks : (s : ℕ) (o : ℕ → Operation) → ((r : ℕ) → NoSelect (o r ∷ [])) → (rs : List ℕ) → NoSelect (picks s o rs)
+none-picks s o h [] = refl
+none-picks s o h (r ∷ rs) = rw (selects-append, none-only (bit r s) (o r) (h r), none-picks s o h rs)
+
+select-alone : (q z : Bool) (p w v r m : List Operation) (s : ℕ) → NoSelect p → NoSelect w → NoSelect v → NoSelect r → NoSelect m
+    → selectsIn (arranged q z p w v r m s) ≡ s ∷ []
+unfolding arranged
+select-alone true z p w v r m s hp hw hv hr hm = simp (selects-append, hp, hr)
+select-alone false true p w v r m s hp hw hv hr hm = simp (selects-append, hp, hw, hv, hm)
+select-alone false false p w v r m s hp hw hv hr hm = simp (selects-append, hp, hw, hv, hm)
+
+select-once : (block : List ℕ) (l : ℕ) (d : Direction) → selectsIn (operationsOf block l d) ≡ selectByte block ∷ []
+select-once block l d =
+    rw (made-of block l d)
+    (select-alone _ _ _ _ _ _ _ _
+    (none-only (not (bit 2 (action block))) Poll refl)
+    (none-picks (byte 3 block) (λ r. Write r (content block r)) (λ r. refl) (0 ∷ 1 ∷ 2 ∷ 3 ∷ 4 ∷ 5 ∷ []))
+    (none-picks (byte 3 block) (λ r. Write r (content block r)) (λ r. refl) (7 ∷ []))
+    (none-picks (byte 3 block) Read (λ r. refl) (0 ∷ 1 ∷ 2 ∷ 3 ∷ 4 ∷ 5 ∷ 6 ∷ 7 ∷ []))
+    (none-only (ltb 0 l) (Transfer (transferByte (action block) d)) refl))
+
+-- the bits above bit 4 are those of a 32nd
+bit-above : (b k : ℕ) → bitOf (suc (suc (suc (suc (suc k))))) b ≡ bitOf k (b / 32)
+bit-above b k =
+    let from : 2 ^ suc (suc (suc (suc (suc k)))) ≡ 32 * 2 ^ k = simp pow-suc (omega arith) in
+    rw (from, ← (div-div-eq-div-mul b 32 (2 ^ k)))
+
+-- in a byte with bit 4 replaced every other bit stands
+bit-stands : (n b k : ℕ) → n ≤ 1 → (k ≡ 4 → ⊥) → bitOf k (withBit4 n b) ≡ bitOf k b
+bit-stands n b zero h other = omega arith
+bit-stands n b (suc zero) h other = omega arith
+bit-stands n b (suc (suc zero)) h other = omega arith
+bit-stands n b (suc (suc (suc zero))) h other = omega arith
+bit-stands n b (suc (suc (suc (suc zero)))) h other = absurd (other refl)
+bit-stands n b (suc (suc (suc (suc (suc k))))) h other =
+    let high : withBit4 n b / 32 ≡ b / 32 = omega arith in bit-above (withBit4 n b) k ∙ ap (λ (q : ℕ). bitOf k q) high ∙ sym (bit-above b k)
+
+pub select-bits : SelectBits operationsOf
+select-bits block l d =
+    let own : cond (bit 5 (action block)) (bitOf 4 (byte 11 block)) 0 ≤ 1 = cond-bit (bit 5 (action block)) (byte 11 block) in (
+      selectByte block,
+      select-once block l d,
+      (λ none. rw none (omega (arith, own), omega (arith, own), omega (arith, own))),
+      (λ chosen. rw chosen (λ k. bit-stands _ (byte 11 block) k own)),
+      omega (arith, own),
+    )
+  where
+    cond-bit : (t : Bool) (n : ℕ) → cond t (bitOf 4 n) 0 ≤ 1
+    cond-bit true n = omega arith
+    cond-bit false n = omega arith
+
+-- ---- a block's list where an action bit is set
 
 -- the eight bits of a with bit k set
 abbrev put : ℕ → (ℕ → ℕ) → ℕ → ℕ
@@ -132,10 +204,10 @@ select-last block block' l d h =
     ((λ reading. rw reading (read-alike _ _ _ _ _ _ _ _ _)), (λ writing. (selectByte block, rw writing (select-moves _ _ _ _ _ _))))
 
 -- the select's operand with bit 5 clear, and with it set
-select-clear : {block block' : List ℕ} → Sets 5 block block' → selectByte block ≡ cond (selected block 6) (byte 11 block - 16 * bitOf 4 (byte 11 block)) 0
+select-clear : {block block' : List ℕ} → Sets 5 block block' → selectByte block ≡ cond (selected block 6) (byte 11 block - 16 * bitOf 4 (byte 11 block)) 0xA0
 select-clear {block} h = rw (h .clear) (go (selected block 6))
   where
-    go : (t : Bool) → withBit4 0 (cond t (byte 11 block) 0) ≡ cond t (byte 11 block - 16 * bitOf 4 (byte 11 block)) 0
+    go : (t : Bool) → withBit4 0 (cond t (byte 11 block) 0xA0) ≡ cond t (byte 11 block - 16 * bitOf 4 (byte 11 block)) 0xA0
     go true = omega arith
     go false = refl
 

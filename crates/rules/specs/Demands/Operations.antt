@@ -1,6 +1,6 @@
--- Demand 2, operations: what each action bit, the direction and L add, move or change in the list, and how long it is.
+-- Demand 2, operations: what each action bit, the direction and L add, move or change in the list, the bits of its select, and how long it is.
 use mathlib.Core.Path.{_≡_}
-use mathlib.Core.Bool.{cond, not}
+use mathlib.Core.Bool.{true, false, cond, not}
 use mathlib.Core.List.{List, [], _∷_, _++_}
 use Prim.Native.Nat.{ℕ, _+_, _-_, _*_, _<_, _≤_}
 use lib.ListN.{length}
@@ -69,11 +69,31 @@ SelectLast ops =
     × (Writing block → (b : ℕ) × (let seven = only (selected block 7) (Write 7 (content block 7)) in
     Differ (ops block l d) (ops block' l d) (Select b ∷ seven) (seven ++ Select b ∷ [])))
 
+-- the operand of each select in a list
+abbrev pub selectsIn : List Operation → List ℕ
+selectsIn [] = []
+selectsIn (Poll ∷ os) = selectsIn os
+selectsIn (Select operand ∷ os) = operand ∷ selectsIn os
+selectsIn (Write register content ∷ os) = selectsIn os
+selectsIn (Read register ∷ os) = selectsIn os
+selectsIn (Transfer operand ∷ os) = selectsIn os
+
+-- A block has one select, and of its bits request 4 says: "Drives built to the early ATA standards expect bits 7 and 5 of the device register to be
+-- one. When register 6 isn't selected .. It should be 0xA0 or 0xB0. When register 6 is selected the caller's byte stands, with only bit 4 replaced as
+-- before."
+abbrev pub SelectBits : Lists → Type 0
+SelectBits ops =
+    (block : List ℕ) (l : ℕ) (d : Direction)
+    → (s : ℕ) × (selectsIn (ops block l d) ≡ s ∷ [])
+    × (selected block 6 ≡ false → (bitOf 7 s ≡ 1) × (bitOf 5 s ≡ 1) × (s ≡ 0xA0 + 16 * bitOf 4 s))
+    × (selected block 6 ≡ true → (k : ℕ) → (k ≡ 4 → ⊥) → bitOf k s ≡ bitOf k (byte 11 block))
+    × (bitOf 4 s ≡ cond (bit 5 (action block)) (bitOf 4 (byte 11 block)) 0)
+
 -- "in it bit 4 becomes bit 4 of byte 11 if action bit 5 is set, else 0"
 abbrev pub SelectBit : Lists → Type 0
 SelectBit ops =
     (block block' : List ℕ) (l : ℕ) (d : Direction) → Sets 5 block block'
-    → (b : ℕ) × (b ≡ cond (selected block 6) (byte 11 block - 16 * bitOf 4 (byte 11 block)) 0)
+    → (b : ℕ) × (b ≡ cond (selected block 6) (byte 11 block - 16 * bitOf 4 (byte 11 block)) 0xA0)
     × Differ (ops block l d) (ops block' l d) (Select b ∷ []) (Select (b + 16 * bitOf 4 (byte 11 block)) ∷ [])
 
 -- "operand is .. plus 2, 4, 8, 16 for action bits 6, 4, 3, 7": bit k adds n to the operand and changes nothing else
