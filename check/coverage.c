@@ -162,10 +162,17 @@ enum {
     ROWS = sizeof allowed / sizeof *allowed
 };
 
+/* The kinds of block that a select is made for, by a bit each: that it reads registers, action bit
+ * 5, that it selects register 6, and bits 4, 5 and 7 of byte 11. */
+enum {
+    SELECTS = 64
+};
+
 struct coverage {
     struct bench bench;
     struct bench before;
     unsigned long counts[EVENTS][ANSWERS][PHASES];
+    unsigned long selects[SELECTS];
     /* How often something was held before it, and how often a burst left so much held. */
     unsigned long holding[EVENTS][ANSWERS];
     unsigned long held[THRANDUE_HELD_TOO_LONG + 1];
@@ -201,6 +208,13 @@ static enum event event_of(const struct record *record) {
     default:
         return STATUS;
     }
+}
+
+static unsigned select_of(const uint8_t *block) {
+    unsigned action = block[2];
+    unsigned device = block[11];
+    return (action & 1) | (action >> 5 & 1) << 1 | (block[3] >> 6 & 1U) << 2 |
+           (device >> 4 & 3) << 3 | (device >> 7) << 5;
 }
 
 static void copy(void *to, const void *from, size_t bytes) {
@@ -330,6 +344,8 @@ static void count_event(void *context, const struct record *record) {
     coverage->counts[event][answer][phase]++;
     coverage->holding[event][answer] += thrandue_held(coverage->before.image) != 0;
     coverage->held[thrandue_held(coverage->bench.image)] += event == BURST;
+    if (event == PACKET && thrandue_count(outcome) != 0)
+        coverage->selects[select_of(record->payload + PACKET_BLOCK)]++;
     if (keeps_the_rest(coverage, record, event, outcome))
         return;
     coverage->faults++;
@@ -385,6 +401,15 @@ static void judge_bursts(struct coverage *coverage) {
     }
 }
 
+static void judge_selects(struct coverage *coverage) {
+    for (unsigned select = 0; select < SELECTS; select++) {
+        if (coverage->selects[select] >= LEAST)
+            continue;
+        coverage->faults++;
+        command_say("a packet with a select of kind 0x%02X: met too seldom", select);
+    }
+}
+
 static void print_row(const struct coverage *coverage, enum event event, uint8_t answer,
                       uint8_t phases) {
     printf("%-18s %6u", event_names[event], (unsigned)answer);
@@ -413,6 +438,7 @@ static int conclude(struct coverage *coverage) {
         for (unsigned answer = 0; answer < ANSWERS; answer++)
             judge(coverage, (enum event)event, (uint8_t)answer);
     judge_bursts(coverage);
+    judge_selects(coverage);
     return command_end(coverage->faults == 0 ? EXIT_FINE : EXIT_REFUSED);
 }
 
