@@ -1,32 +1,43 @@
 -- The image stays in step with the rules: at power-on, and with whatever change is put into it.
 use mathlib.Core.Path.{_≡_, refl, ap, _∙_}
 use mathlib.Core.Bool.{Bool, true, false, cond}
-use mathlib.Core.List.{List, [], _++_}
+use mathlib.Core.List.{List, [], _∷_, _++_}
 use Prim.Native.Nat.{ℕ}
 use native.Mathlib.Omega.{arith}
-use lib.ListN.{length, drop, replicate, length-set}
+use lib.ListN.{length, drop, replicate, length-set, length-append}
 use lib.Seq.{take-set-le}
 use Rattle.rules.specs.declared.Change.{Change}
 use Rattle.rules.specs.declared.Change.the-variants.{Nothing, Sets, Awaits, Resets, Drops, Begins, Finishes, Stops, Notes, Clears, Ends}
 use Rattle.rules.specs.declared.Direction.the-variants.{Out, In}
-use Rattle.rules.specs.Words.{over}
-use Rattle.rules.specs.Held.{world, holding}
-use Rattle.rules.specs.Held.{powered as atPowerOn}
+use Rattle.rules.specs.Words.{one, over}
+use Rattle.rules.specs.Held.{Start, world, holding, powerOn, powerOnBytes}
 use Rattle.rules.specs.Changes.{made, drops}
 use Rattle.rules.specs.Bursts.{kept}
 use Rattle.rules.specs.Demands.Sizes.{Sized}
-use Rattle.rules.proofs.Rows.{four-bytes}
+use Rattle.rules.proofs.Rows.{over-length, four-bytes}
 use Rattle.rules.proofs.Demands.Boundary.{none-given}
 use Rattle.image.proofs.Rows.{row, row-set, by-bytes}
 use Rattle.image.specs.Image.{bytesOf, decode, heldOf, worldOf, powered, dropped, put, PowersOn, InStep}
 
-pub powers-on : PowersOn
+-- a dock's image at power-on, with any sixteen bytes, stands for its world
+abbrev On : Bool → List ℕ → List ℕ → Type 0
+On b memory bytes = worldOf (bytes ++ replicate 13 0 ++ one b ∷ replicate 32 0) memory ≡ world (powerOn (record { «bus_powered» = b })) bytes memory
+
+on-bytes : (b : Bool) (memory bytes : List ℕ) → On b memory (row 0 16 bytes)
 unfolding kept
-powers-on dock memory = go (dock .«bus_powered»)
-  where
-    go : (b : Bool) → worldOf (powered (record { «bus_powered» = b })) memory ≡ atPowerOn (record { «bus_powered» = b }) memory
-    go true = refl
-    go false = refl
+on-bytes true memory bytes = refl
+on-bytes false memory bytes = refl
+
+pub powers-on : PowersOn
+powers-on start memory =
+    let bytes : List ℕ = over powerOnBytes 2 (start .settings) in
+    let b : Bool = start .dock .«bus_powered» in
+    by-bytes 16 bytes (over-length powerOnBytes 2 (start .settings)) (On b memory) (on-bytes b memory bytes)
+
+pub powered-length : (start : Start) → length (powered start) ≡ 62
+powered-length start =
+    let n : length (over powerOnBytes 2 (start .settings)) ≡ 16 = over-length powerOnBytes 2 (start .settings) in
+    omega (arith, length-append (over powerOnBytes 2 (start .settings) ++ replicate 13 0) (one (start .dock .«bus_powered») ∷ replicate 32 0), length-append (over powerOnBytes 2 (start .settings)) (replicate 13 0))
 
 -- ---- a change, put into an image whose configuration bytes were written
 

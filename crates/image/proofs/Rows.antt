@@ -1,6 +1,6 @@
 -- An image, byte by byte: what holds of its bytes in a row holds of it; what a store leaves before it; what is copied out, and back.
 use mathlib.Core.Path.{_≡_, refl, sym, ap, subst}
-use mathlib.Core.List.{List, [], _∷_}
+use mathlib.Core.List.{List, [], _∷_, _++_}
 use Prim.Native.Nat.{ℕ, zero, suc, _+_, _≤_}
 use native.Mathlib.Omega.{arith}
 use lib.ListN.{length, set, take, drop, replicate, drop-of-length-le}
@@ -23,6 +23,15 @@ pub row-set : (k n i a : ℕ) (s : List ℕ) → k + n ≤ i → row k n (set s 
 row-set k zero i a s h = refl
 row-set k (suc n) i a s h =
     rw (getD-set-other s i k a 0 (λ e. omega arith)) (ap (λ (l : List ℕ). byte k s ∷ l) (row-set (suc k) n i a s (omega arith)))
+
+-- what is copied into a front changes no more than that
+pub over-front : (front rest : List ℕ) (at : ℕ) (xs : List ℕ) → at + length xs ≤ length front → over (front ++ rest) at xs ≡ over front at xs ++ rest
+unfolding over
+over-front front rest zero [] h = refl
+over-front [] rest zero (x ∷ xs) h = absurd (omega arith)
+over-front (r ∷ front) rest zero (x ∷ xs) h = ap (λ (l : List ℕ). x ∷ l) (over-front front rest zero xs (omega arith))
+over-front [] rest (suc at) xs h = absurd (omega arith)
+over-front (r ∷ front) rest (suc at) xs h = ap (λ (l : List ℕ). r ∷ l) (over-front front rest at xs (omega arith))
 
 -- its last 32 bytes, copied out
 pub copied-out : (image : List ℕ) → length image ≡ 62 → over (replicate 32 0) 0 (take 32 (drop 30 image)) ≡ drop 30 image

@@ -5,6 +5,7 @@ use Prim.Native.Nat.{ℕ}
 use Rattle.rules.specs.OneOutcome.{OneOutcome}
 use Rattle.rules.proofs.Unique.{only}
 use Rattle.image.proofs.«power_on» as PowerOn
+use Rattle.image.proofs.«power_on_with» as PowerOnWith
 use Rattle.image.proofs.«signature_of» as SignatureOf
 use Rattle.image.proofs.seen as Seen
 use Rattle.image.proofs.load as Load
@@ -14,6 +15,9 @@ use Rattle.image.proofs.make as Make
 
 pub «power_on» : OneOutcome PowerOn.Kinds.ps PowerOn.Kinds.r PowerOn.Reads.Post
 «power_on» κs a r r' left left' p q = (refl, ap (λ (now : List ℕ). (now, (tt, tt))) (only p q))
+
+pub «power_on_with» : OneOutcome PowerOnWith.Kinds.ps PowerOnWith.Kinds.r PowerOnWith.Reads.Post
+«power_on_with» κs a r r' left left' p q = (refl, ap (λ (now : List ℕ). (now, (tt, (tt, tt)))) (only p q))
 
 pub «signature_of» : OneOutcome SignatureOf.Kinds.ps SignatureOf.Kinds.r SignatureOf.Reads.Post
 «signature_of» κs a r r' left left' p q = (only p q, refl)

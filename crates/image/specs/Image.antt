@@ -14,7 +14,7 @@ use Rattle.rules.specs.declared.Dock.{Dock}
 use Rattle.rules.specs.declared.Phase.{Phase}
 use Rattle.rules.specs.declared.Phase.the-variants.{Awaiting, Busy, StatusWaiting, Stopped}
 use Rattle.rules.specs.Words.{byte, long, bytes4, one, over}
-use Rattle.rules.specs.Held.{World, world, holding, powerOnBytes, marks}
+use Rattle.rules.specs.Held.{World, Start, world, holding, powerOnBytes, marks}
 use Rattle.rules.specs.Held.{powered as atPowerOn}
 use Rattle.rules.specs.Changes.{made, drops}
 use Rattle.rules.specs.Packets.{inward}
@@ -71,8 +71,8 @@ heldIn image = record { bytes = drop 30 image; count = length (heldOf image) }
 
 -- ---- written: at power-on, by each change, and by a burst. What an earlier phase left where this one has nothing stays, and so do bytes that are dropped.
 
-abbrev pub powered : Dock → List ℕ
-powered dock = powerOnBytes ++ replicate 13 0 ++ one (dock .«bus_powered») ∷ replicate 32 0
+abbrev pub powered : Start → List ℕ
+powered start = over powerOnBytes 2 (start .settings) ++ replicate 13 0 ++ one (start .dock .«bus_powered») ∷ replicate 32 0
 
 abbrev pub numbered : ℕ → ℕ → List ℕ → List ℕ
 numbered tag amount image = over (over image 16 (bytes4 tag)) 20 (bytes4 amount)
@@ -114,7 +114,7 @@ added burst image =
 
 -- the image at power-on stands for the world at power-on
 abbrev pub PowersOn : Type 0
-PowersOn = (dock : Dock) (memory : List ℕ) → worldOf (powered dock) memory ≡ atPowerOn dock memory
+PowersOn = (start : Start) (memory : List ℕ) → worldOf (powered start) memory ≡ atPowerOn start memory
 
 -- an image whose configuration bytes were written and where a change with numbers of 32 bits was put stands for those bytes and the bridge with the change
 -- made, holding what it held or nothing

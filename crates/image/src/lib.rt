@@ -3,6 +3,7 @@ ghost use mathlib.Core.Path.{_≡_};
 ghost use mathlib.Core.List.{[]};
 ghost use lib.ListN.{set, drop};
 ghost use Rattle.rules.specs.Words.{long, byte};
+ghost use Rattle.rules.specs.Held.{starting, byDefault};
 ghost use Rattle.rules.specs.Answers.{seenOf};
 ghost use Rattle.rules.specs.Packets.{signatureOf};
 ghost use Rattle.image.specs.Image.{bytesOf, isMarked, directionFrom, phaseFrom, dockOf, decode, worldOf, heldIn, powered, numbered, phased, marked, dropped, calm, put, added};
@@ -21,6 +22,8 @@ pub const IMAGE: usize = 62;
 
 // Behind the sixteen configuration bytes stand the tag, and L or the residue; a mark each for configured, bulk out halted and bulk in halted; the
 // phase; its direction, its status or its note; fixed at power-on, a mark for bus powered; and what is held: the bytes, and how many they are.
+const SETTINGS: usize = 0x02;
+
 const SIGNATURE: usize = 0x04;
 
 const TAG: usize = 16;
@@ -62,11 +65,19 @@ pub struct Fragments {
 
 // Whatever it held, an image is that of a dock's bridge at power-on.
 pub fn power_on(image: &mut [u8; IMAGE], dock: Dock)
-    ensures { λ u. ⌜ now (image .exit) ≡ powered dock ⌝ }
+    ensures { λ u. ⌜ now (image .exit) ≡ powered (byDefault dock) ⌝ }
 {
     *image = [0; IMAGE];
     lent::copy(image, 0, &rules::power_on_bytes());
     image[BUS_POWERED] = dock.bus_powered as u8;
+}
+
+// .. with settings, the bytes for addresses 2 to F.
+pub fn power_on_with(image: &mut [u8; IMAGE], dock: Dock, settings: &[u8; 14])
+    ensures { λ u. ⌜ now (image .exit) ≡ powered (starting dock (now (settings .entry))) ⌝ }
+{
+    power_on(image, dock);
+    lent::copy(image, SETTINGS, settings);
 }
 
 fn direction_from(detail: u8) -> Direction

@@ -16,6 +16,7 @@ pub mod Coherence
 pub mod Stored
 pub mod Statuses
 pub mod Turns
+pub mod Settings
 pub mod Mends
 pub mod Numbers
 pub mod Descriptors

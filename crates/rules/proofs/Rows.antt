@@ -1,11 +1,11 @@
 -- Laws of a row with another over it: how long it is, where all of it fits at the front, and how a loop puts it there; of a part of a row's front; and of
 -- numbers and rows byte by byte.
 use mathlib.Core.Path.{_≡_, refl, sym, ap, _∙_}
-use mathlib.Core.List.{List, [], _∷_, _++_}
+use mathlib.Core.List.{List, [], _∷_, _++_, append-nil}
 use Prim.Native.Nat.{ℕ, zero, suc, _+_, _-_, _*_, _/_, _%_, _^_, _<_, _≤_, min}
 use native.Mathlib.Nat.{zero-add, suc-add, div-div-eq-div-mul}
 use native.Mathlib.Omega.{arith}
-use lib.ListN.{length, take, drop, length-drop, take-append-drop}
+use lib.ListN.{length, take, drop, length-drop, drop-of-length-le, take-append-drop}
 use lib.Seq.{length-take-le, drop-cons, take-append-le, drop-append-le, paste, paste-zero}
 use Rattle.rules.specs.Words.{byte, laid, over}
 
@@ -23,6 +23,13 @@ unfolding over
 over-laid room [] h = refl
 over-laid [] (x ∷ xs) h = absurd (omega arith)
 over-laid (r ∷ room) (x ∷ xs) h = ap (λ (l : List ℕ). x ∷ l) (over-laid room xs (omega arith))
+
+-- what is as long as the row takes its place
+pub over-all : (row xs : List ℕ) → length xs ≡ length row → over row 0 xs ≡ xs
+over-all row xs h =
+    over-laid row xs (omega arith)
+    ∙ ap (λ (l : List ℕ). xs ++ l) (drop-of-length-le row {i = length xs} (omega arith))
+    ∙ append-nil xs
 
 -- so many are put there one by one
 pub over-pastes : (row : List ℕ) (at : ℕ) (xs : List ℕ) (n : ℕ) → n ≡ min (length xs) (length row - at) → over row at xs ≡ paste row at xs n

@@ -10,6 +10,7 @@ pub mod Examples
 pub mod ShutOut
 pub mod Makers
 pub mod Coherence
+pub mod Settings
 pub mod Mends
 pub mod Numbers
 pub mod Descriptors

@@ -2,7 +2,7 @@
 use Prim.Native.Nat.{ℕ, min}
 use mathlib.Core.Bool.{Bool, true, false, cond, _||_}
 use mathlib.Core.List.{List, [], _∷_}
-use lib.ListN.{length, take}
+use lib.ListN.{length, take, drop}
 use Rattle.rules.specs.declared.Bridge.{Bridge}
 use Rattle.rules.specs.declared.Direction.{Direction}
 use Rattle.rules.specs.declared.Dock.{Dock}
@@ -10,6 +10,7 @@ use Rattle.rules.specs.declared.Direction.the-variants.{Out, In}
 use Rattle.rules.specs.declared.Halts.{Halts}
 use Rattle.rules.specs.declared.Phase.{Phase}
 use Rattle.rules.specs.declared.Phase.the-variants.{Awaiting, Busy, StatusWaiting, Stopped}
+use Rattle.rules.specs.Words.{over}
 
 -- The bridge with the sixteen configuration bytes, the memory part and what is held of a packet in bursts beside it.
 pub record World : Type 0 where
@@ -59,8 +60,24 @@ powerOn dock = record { dock = dock; configured = false; phase = Awaiting; halts
 abbrev pub powerOnBytes : List ℕ
 powerOnBytes = 0 ∷ 0 ∷ 0 ∷ 0 ∷ 0x24 ∷ 0 ∷ 0 ∷ 0 ∷ 0 ∷ 0 ∷ 0 ∷ 0 ∷ 0 ∷ 0 ∷ 0 ∷ 0 ∷ []
 
-abbrev pub powered : Dock → List ℕ → World
-powered dock memory = world (powerOn dock) powerOnBytes memory
+-- What power-on is told: the dock, and the settings' "fourteen bytes for addresses 2 to F".
+pub record Start : Type 0 where
+  pub dock : Dock
+  pub settings : List ℕ
+
+abbrev pub starting : Dock → List ℕ → Start
+starting dock settings = record { dock = dock; settings = settings }
+
+-- "a refused store leaves the defaults", and so does none
+abbrev pub defaults : List ℕ
+defaults = drop 2 powerOnBytes
+
+abbrev pub byDefault : Dock → Start
+byDefault dock = starting dock defaults
+
+-- "They reach the bridge at power-on only."
+abbrev pub powered : Start → List ℕ → World
+powered start memory = world (powerOn (start .dock)) (over powerOnBytes 2 (start .settings)) memory
 
 -- ---- the bridge, changed in one respect
 

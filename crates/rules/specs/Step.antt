@@ -6,12 +6,11 @@ use lib.ListN.{length}
 use lib.Dec.{eqb}
 use Rattle.rules.specs.declared.Change.{Change}
 use Rattle.rules.specs.declared.Change.the-variants.{Nothing, Sets, Awaits, Stops}
-use Rattle.rules.specs.declared.Dock.{Dock}
 use Rattle.rules.specs.declared.Phase.{Phase}
 use Rattle.rules.specs.declared.Phase.the-variants.{Awaiting, Busy, StatusWaiting, Stopped}
 use Rattle.rules.specs.declared.Stands.{Stands}
 use Rattle.rules.specs.declared.Stands.the-variants.{InRoom}
-use Rattle.rules.specs.Held.{World, world, holding, powered}
+use Rattle.rules.specs.Held.{World, Start, world, holding, powered}
 use Rattle.rules.specs.Changes.{made, drops}
 use Rattle.rules.specs.Requests.{setupOf, requestOf, replyTo, standing, changeBy, bytesAfter, memoryAfter}
 use Rattle.rules.specs.Packets.{commandOf, blockOf, directionOf, signatureOf, recognises, commandTaken, statusPacket}
@@ -174,7 +173,7 @@ step w e =
 
 pub record Machine : Type 1 where
   pub State : Type 0
-  pub on : Dock → List ℕ → State
+  pub on : Start → List ℕ → State
   pub shows : State → World
   pub takes : State → Event → Outcome State
 
@@ -186,6 +185,6 @@ abbrev pub after : (m : Machine) → m .State → List Event → m .State
 after m s [] = s
 after m s (e ∷ es) = after m (m .takes s e .next) es
 
--- after a history from power-on, of this dock with this memory fitted
-abbrev pub reached : (m : Machine) → Dock → List ℕ → List Event → m .State
-reached m dock memory history = after m (m .on dock memory) history
+-- after a history from power-on, of this start with this memory fitted
+abbrev pub reached : (m : Machine) → Start → List ℕ → List Event → m .State
+reached m start memory history = after m (m .on start memory) history

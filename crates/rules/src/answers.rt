@@ -36,3 +36,13 @@ pub const MALFORMED: u8 = 17;
 pub const NO_DESCRIPTOR: u8 = 18;
 
 pub const PAST_MEMORY: u8 = 19;
+
+pub const CUT_RECORD: u8 = 20;
+
+pub const UNKNOWN_KIND: u8 = 21;
+
+pub const PAYLOAD_LENGTH: u8 = 22;
+
+pub const NO_RECORD: u8 = 23;
+
+pub const RECORD_ROOM: u8 = 29;

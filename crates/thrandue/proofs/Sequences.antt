@@ -6,9 +6,8 @@ use Prim.Native.Nat.{ℕ}
 use native.Mathlib.Omega.{arith}
 use lib.ListN.{length, drop, length-set, length-append, length-drop, take-append-drop}
 use Rattle.rules.specs.declared.Request.the-variants.{LoadConfigData}
-use Rattle.rules.specs.declared.Dock.{Dock}
 use Rattle.rules.specs.Words.{word, over}
-use Rattle.rules.specs.Held.{World, holding}
+use Rattle.rules.specs.Held.{World, Start, holding}
 use Rattle.rules.specs.Held.{powered as atPowerOn}
 use Rattle.rules.specs.Requests.{setupOf, requestOf, isA, inMemory}
 use Rattle.rules.specs.Step.{Event, BusReset, Control, Packet, Report, StatusRequest, Burst, EndMark, Outcome, answer, done, bytesDone, change, heldAfter, step, rules, after, reached}
@@ -23,7 +22,7 @@ use Rattle.rules.proofs.Bursts.{held-by-change}
 use Rattle.rules.proofs.Demands.Sizes.{Measured, sized, stepped, measured, measured-on}
 use Rattle.image.specs.Image.{bytesOf, powered, worldOf, dropped, put, added}
 use Rattle.image.proofs.Holding.{added-length, burst-in-step}
-use Rattle.image.proofs.InStep.{powers-on, in-step, dropped-in-step, put-length}
+use Rattle.image.proofs.InStep.{powers-on, powered-length, in-step, dropped-in-step, put-length}
 use Rattle.thrandue.specs.Calls.{returns, holds}
 use Rattle.thrandue.specs.Sequences.{StandsForIt, Call, eventOf, eventsOf, Learnt, learnt, Parts, calling, partsAfter, learns, partsSince, standsFor, ruled, FromPowerOn, Hushed, AllHushed, CallsAreSilent, CallsResume}
 use Rattle.thrandue.proofs.Laws.{sixteen}
@@ -134,13 +133,13 @@ runs s (c ∷ cs) h n b =
       stands-so = rest .stands-so ∙ ap (λ (v : World). after rules v (eventsOf cs)) now;
     }
 
-since-on : (dock : Dock) (memory : List ℕ) (cs : List Call) → AllOfBytes (eventsOf cs) → Runs (powered dock, memory) (atPowerOn dock memory) cs
-since-on dock memory cs b =
-    subst (λ (w : World). Runs (powered dock, memory) w cs) (powers-on dock memory)
-    (runs (powered dock, memory) cs refl (subst Measured (sym (powers-on dock memory)) (measured-on dock memory)) b)
+since-on : (start : Start) (memory : List ℕ) (cs : List Call) → AllOfBytes (eventsOf cs) → Runs (powered start, memory) (atPowerOn start memory) cs
+since-on start memory cs b =
+    subst (λ (w : World). Runs (powered start, memory) w cs) (powers-on start memory)
+    (runs (powered start, memory) cs (powered-length start) (subst Measured (sym (powers-on start memory)) (measured-on start memory)) b)
 
 pub from-power-on : FromPowerOn
-from-power-on dock memory cs b = (since-on dock memory cs b .learnt-so, since-on dock memory cs b .stands-so)
+from-power-on start memory cs b = (since-on start memory cs b .learnt-so, since-on start memory cs b .stands-so)
 
 -- ---- calls in two parts
 
@@ -153,10 +152,10 @@ bytes-split [] ds b = (tt, b)
 bytes-split (c ∷ cs) ds b = let rest = bytes-split cs ds (b .1) in ((b .0, rest .0), rest .1)
 
 -- the world after a history and what follows it
-after-both : (dock : Dock) (memory : List ℕ) (history more : List Call) → AllOfBytes (eventsOf (history ++ more))
-    → standsFor (partsSince dock memory (history ++ more)) ≡ after rules (reached rules dock memory (eventsOf history)) (eventsOf more)
-after-both dock memory history more b =
-    since-on dock memory (history ++ more) b .stands-so ∙ ap (reached rules dock memory) (events-append history more)
+after-both : (start : Start) (memory : List ℕ) (history more : List Call) → AllOfBytes (eventsOf (history ++ more))
+    → standsFor (partsSince start memory (history ++ more)) ≡ after rules (reached rules start memory (eventsOf history)) (eventsOf more)
+after-both start memory history more b =
+    since-on start memory (history ++ more) b .stands-so ∙ ap (reached rules start memory) (events-append history more)
     ∙ after-append _ (eventsOf history) (eventsOf more)
 
 -- ---- demand 3
@@ -178,19 +177,19 @@ all-hushed w [] s = tt
 all-hushed w (c ∷ cs) s = (hushed w (eventOf c) (c .room) (s .0) (s .1), all-hushed (step w (eventOf c) .next) cs (s .2))
 
 pub calls-are-silent : CallsAreSilent
-calls-are-silent dock memory history d since b stop =
+calls-are-silent start memory history d since b stop =
     let parts = bytes-split history (d ∷ since) b in
-    let before = since-on dock memory history (parts .0) in
-    let numbers = subst Measured (sym (before .stands-so)) (measured (atPowerOn dock memory) (eventsOf history) (measured-on dock memory) (parts .0)) in
-    let here = runs (partsSince dock memory history) (d ∷ since) (before .image) numbers (parts .1) in
+    let before = since-on start memory history (parts .0) in
+    let numbers = subst Measured (sym (before .stands-so)) (measured (atPowerOn start memory) (eventsOf history) (measured-on start memory) (parts .0)) in
+    let here = runs (partsSince start memory history) (d ∷ since) (before .image) numbers (parts .1) in
     let same = here .learnt-so ∙ ap (λ (w : World). ruled w (d ∷ since)) (before .stands-so) in
     subst (AllHushed (d ∷ since)) (sym same)
-    (all-hushed (reached rules dock memory (eventsOf history)) (d ∷ since) (silence dock memory (eventsOf history) (eventOf d) (eventsOf since) stop))
+    (all-hushed (reached rules start memory (eventsOf history)) (d ∷ since) (silence start memory (eventsOf history) (eventOf d) (eventsOf since) stop))
 
 pub calls-resume : CallsResume
-calls-resume dock memory history d since b kept all all' stop ends same =
-    after-both dock memory history (d ∷ since ++ b ∷ []) all
-    ∙ ap (λ (es : List Event). after rules (reached rules dock memory (eventsOf history)) (eventOf d ∷ es)) (events-append since (b ∷ []))
-    ∙ resumption dock memory (eventsOf history) (eventOf d) (eventsOf since) (eventOf b) stop ends
-    ∙ ap (λ (es : List Event). holding [] (after rules (reached rules dock memory (eventsOf history)) es)) (sym same)
-    ∙ ap (holding []) (sym (after-both dock memory history kept all'))
+calls-resume start memory history d since b kept all all' stop ends same =
+    after-both start memory history (d ∷ since ++ b ∷ []) all
+    ∙ ap (λ (es : List Event). after rules (reached rules start memory (eventsOf history)) (eventOf d ∷ es)) (events-append since (b ∷ []))
+    ∙ resumption start memory (eventsOf history) (eventOf d) (eventsOf since) (eventOf b) stop ends
+    ∙ ap (λ (es : List Event). holding [] (after rules (reached rules start memory (eventsOf history)) es)) (sym same)
+    ∙ ap (holding []) (sym (after-both start memory history kept all'))

@@ -6,6 +6,7 @@ use Rattle.rules.specs.OneOutcome.{OneOutcome}
 use Rattle.rules.proofs.Unique.{only}
 use Rattle.thrandue.specs.Calls.{Called}
 use Rattle.thrandue.proofs.«thrandue_power_on» as PowerOn
+use Rattle.thrandue.proofs.«thrandue_power_on_with_store» as PowerOnWithStore
 use Rattle.thrandue.proofs.«thrandue_bus_reset» as BusReset
 use Rattle.thrandue.proofs.«thrandue_control» as Control
 use Rattle.thrandue.proofs.commands.«thrandue_packet» as Packet
@@ -23,6 +24,9 @@ number c = c .returned
 
 pub «thrandue_power_on» : OneOutcome PowerOn.Kinds.ps PowerOn.Kinds.r PowerOn.Reads.Post
 «thrandue_power_on» κs a r r' left left' p q = (ap number (only p q), ap (λ (c : Called). (c .image, (tt, tt))) (only p q))
+
+pub «thrandue_power_on_with_store» : OneOutcome PowerOnWithStore.Kinds.ps PowerOnWithStore.Kinds.r PowerOnWithStore.Reads.Post
+«thrandue_power_on_with_store» κs a r r' left left' p q = (ap number (only p q), ap (λ (c : Called). (c .image, (tt, (tt, tt)))) (only p q))
 
 pub «thrandue_bus_reset» : OneOutcome BusReset.Kinds.ps BusReset.Kinds.r BusReset.Reads.Post
 «thrandue_bus_reset» κs a r r' left left' p q =

@@ -1,9 +1,10 @@
 -- What an exported call leaves and returns, as one equation with the rules.
 use Prim.Native.Nat.{ℕ, _+_, _*_}
 use mathlib.Core.Path.{_≡_}
-use mathlib.Core.List.{List, _++_}
+use mathlib.Core.List.{List, [], _++_}
 use lib.ListN.{length, drop}
 use Rattle.rules.specs.declared.Bridge.{Bridge}
+use Rattle.rules.specs.declared.Dock.{Dock}
 use Rattle.rules.specs.declared.Phase.{Phase}
 use Rattle.rules.specs.declared.Phase.the-variants.{Awaiting, Busy, StatusWaiting, Stopped}
 use Rattle.rules.specs.declared.Stands.{Stands}
@@ -12,8 +13,10 @@ use Rattle.rules.specs.Words.{one}
 use Rattle.rules.specs.declared.Change.the-variants.{Drops}
 use Rattle.rules.specs.Descriptors.{numberOf as startOf}
 use Rattle.rules.specs.Step.{Event, BusReset, Control, Packet, Report, StatusRequest, Burst, EndMark}
+use Rattle.rules.specs.Held.{starting}
 use Rattle.rules.specs.Promise.{Left, leaves}
-use Rattle.image.specs.Image.{worldOf, put, added}
+use Rattle.settings.specs.declared.Reading.{Reading}
+use Rattle.image.specs.Image.{worldOf, powered, put, added}
 
 -- the number that a call returns, the image, the memory, and the lent room
 pub record Called : Type 0 where
@@ -52,6 +55,10 @@ calls image memory event room = inImage (event (length room)) image (leaves (wor
 -- a call that is lent no memory: with every memory, and it leaves it as it is
 abbrev pub CallTold : List ℕ → (ℕ → Event) → List ℕ → ℕ → List ℕ → List ℕ → Type 0
 CallTold image event room returned image' room' = (memory : List ℕ) → called returned image' memory room' ≡ calls image memory event room
+
+-- power-on with what is read of a store: its number is returned, and its fourteen bytes stand at their addresses, which are the defaults where it is refused
+abbrev pub poweredBy : Dock → Reading → Called
+poweredBy dock r = called (r .answer) (powered (starting dock (r .settings .bytes))) [] []
 
 -- ---- readers of the image
 

@@ -4,9 +4,8 @@ use mathlib.Core.Path.{_≡_}
 use mathlib.Core.Bool.{true}
 use mathlib.Core.List.{List, [], _∷_, _++_}
 use lib.ListN.{length}
-use Rattle.rules.specs.declared.Dock.{Dock}
 use Rattle.rules.specs.declared.Stands.the-variants.{InRoom}
-use Rattle.rules.specs.Held.{World, holding}
+use Rattle.rules.specs.Held.{World, Start, holding}
 use Rattle.rules.specs.Held.{powered as atPowerOn}
 use Rattle.rules.specs.Step.{Event, BusReset, Control, Packet, Report, StatusRequest, Burst, EndMark, change, step, rules, after, reached}
 use Rattle.rules.specs.Promise.{Left, leaves}
@@ -63,8 +62,8 @@ learns s [] = []
 learns s (c ∷ cs) = learnt (calling s c .returned) (calling s c .room) ∷ learns (calling s c .image, calling s c .memory) cs
 
 -- from thrandue_power_on on
-abbrev pub partsSince : Dock → List ℕ → List Call → Parts
-partsSince dock memory cs = partsAfter (powered dock, memory) cs
+abbrev pub partsSince : Start → List ℕ → List Call → Parts
+partsSince start memory cs = partsAfter (powered start, memory) cs
 
 -- the world that they stand for
 abbrev pub standsFor : Parts → World
@@ -82,9 +81,9 @@ ruled w (c ∷ cs) =
 -- the world that they leave. That a packet and a burst are bytes is what their type says.
 abbrev pub FromPowerOn : Type 0
 FromPowerOn =
-    (dock : Dock) (memory : List ℕ) (cs : List Call) → AllOfBytes (eventsOf cs)
-    → (learns (powered dock, memory) cs ≡ ruled (atPowerOn dock memory) cs)
-    × (standsFor (partsSince dock memory cs) ≡ reached rules dock memory (eventsOf cs))
+    (start : Start) (memory : List ℕ) (cs : List Call) → AllOfBytes (eventsOf cs)
+    → (learns (powered start, memory) cs ≡ ruled (atPowerOn start memory) cs)
+    × (standsFor (partsSince start memory cs) ≡ reached rules start memory (eventsOf cs))
 
 -- ---- demand 3, of calls
 
@@ -106,19 +105,19 @@ AllHushed (c ∷ cs) (l ∷ ls) = Hushed (eventOf c) (c .room) l × AllHushed cs
 -- "Until the boundary named in document 01, no register operation and no status packet is handed out."
 abbrev pub CallsAreSilent : Type 0
 CallsAreSilent =
-    (dock : Dock) (memory : List ℕ) (history : List Call) (d : Call) (since : List Call) → AllOfBytes (eventsOf (history ++ d ∷ since))
-    → Stop rules dock memory (eventsOf history) (eventOf d) (eventsOf since)
-    → AllHushed (d ∷ since) (learns (partsSince dock memory history) (d ∷ since))
+    (start : Start) (memory : List ℕ) (history : List Call) (d : Call) (since : List Call) → AllOfBytes (eventsOf (history ++ d ∷ since))
+    → Stop rules start memory (eventsOf history) (eventOf d) (eventsOf since)
+    → AllHushed (d ∷ since) (learns (partsSince start memory history) (d ∷ since))
 
 -- "After it, the bridge is in the state of one that never received the damaged packet nor anything since, save accepted vendor writes and the
 -- bus reset or configuration change, if one was the boundary": `kept` are the calls of these. "The bridge compared with holds no fragments."
 abbrev pub CallsResume : Type 0
 CallsResume =
-    (dock : Dock) (memory : List ℕ) (history : List Call) (d : Call) (since : List Call) (b : Call) (kept : List Call)
+    (start : Start) (memory : List ℕ) (history : List Call) (d : Call) (since : List Call) (b : Call) (kept : List Call)
     → AllOfBytes (eventsOf (history ++ (d ∷ since ++ b ∷ []))) → AllOfBytes (eventsOf (history ++ kept))
-    → Stop rules dock memory (eventsOf history) (eventOf d) (eventsOf since)
-    → (let stopped : World = step (reached rules dock memory (eventsOf history)) (eventOf d) .next in
+    → Stop rules start memory (eventsOf history) (eventOf d) (eventsOf since)
+    → (let stopped : World = step (reached rules start memory (eventsOf history)) (eventOf d) .next in
     let last : World = after rules stopped (eventsOf since) in
     boundary rules last (eventOf b) ≡ true
     → eventsOf kept ≡ keptWrites rules stopped (eventsOf since) ++ keptBoundary rules last (eventOf b)
-    → standsFor (partsSince dock memory (history ++ (d ∷ since ++ b ∷ []))) ≡ holding [] (standsFor (partsSince dock memory (history ++ kept))))
+    → standsFor (partsSince start memory (history ++ (d ∷ since ++ b ∷ []))) ≡ holding [] (standsFor (partsSince start memory (history ++ kept))))

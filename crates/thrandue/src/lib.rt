@@ -4,12 +4,13 @@ ghost use mathlib.Core.List.{[], _++_};
 ghost use Prim.Native.Nat.{_≤_};
 ghost use lib.ListN.{length, drop};
 ghost use Rattle.outcomes.specs.Outcomes.{leftBy};
-ghost use Rattle.rules.specs.Held.{world, configuration};
+ghost use Rattle.rules.specs.Held.{world, byDefault, configuration};
 ghost use Rattle.rules.specs.Promise.{served};
 ghost use Rattle.rules.specs.declared.Stands.the-variants.{InRoom, InMemory};
 ghost use Rattle.rules.specs.Step.{BusReset, Control, Report, StatusRequest};
+ghost use Rattle.settings.specs.Store.{reads, newest};
 ghost use Rattle.image.specs.Image.{bytesOf, decode, heldOf, powered, put};
-ghost use Rattle.thrandue.specs.Calls.{called, returns, calls, CallTold, phaseNumber, haltNumber};
+ghost use Rattle.thrandue.specs.Calls.{called, returns, calls, CallTold, poweredBy, phaseNumber, haltNumber};
 
 mod commands;
 
@@ -58,13 +59,31 @@ fn serve(
 
 #[no_mangle]
 pub extern "C" fn thrandue_power_on(image: &mut [u8; IMAGE], bus_powered: bool) -> u32
-    ensures { λ r. ⌜ called r (now (image .exit)) [] [] ≡ called 0 (powered (record { «bus_powered» = «bus_powered» })) [] [] ⌝ }
+    ensures { λ r. ⌜ called r (now (image .exit)) [] [] ≡ called 0 (powered (byDefault (record { «bus_powered» = «bus_powered» }))) [] [] ⌝ }
 {
     let dock = Dock {
         bus_powered: bus_powered,
     };
     image::power_on(image, dock);
     answers::DONE as u32
+}
+
+// .. with the settings of a store; one that is refused leaves the defaults.
+#[no_mangle]
+pub extern "C" fn thrandue_power_on_with_store(
+    image: &mut [u8; IMAGE],
+    bus_powered: bool,
+    store: &[u8],
+) -> u32
+    ensures { λ r. ⌜ called r (now (image .exit)) [] [] ≡ poweredBy (record { «bus_powered» = «bus_powered» }) (reads newest (now (store .entry))) ⌝ }
+{
+    let dock = Dock {
+        bus_powered: bus_powered,
+    };
+    let reading = settings::read(store);
+    let bytes = reading.settings.bytes;
+    image::power_on_with(image, dock, &bytes);
+    reading.answer as u32
 }
 
 #[no_mangle]

@@ -9,12 +9,11 @@ use borrow.Author.Tests.{eqb-true, not-true}
 use Rattle.rules.specs.declared.Bridge.{Bridge}
 use Rattle.rules.specs.declared.Change.the-variants.{Nothing, Stops}
 use Rattle.rules.specs.declared.Direction.the-variants.{Out, In}
-use Rattle.rules.specs.declared.Dock.{Dock}
 use Rattle.rules.specs.declared.Phase.the-variants.{Awaiting, Stopped}
 use Rattle.rules.specs.declared.Request.{Request}
 use Rattle.rules.specs.declared.Request.the-variants.{SetConfiguration, GetConfiguration, ClearFeature, GetStatus, GetMaxLun, MassStorageReset, LoadConfigData, ReadConfigData, SoftReset, BogusRead}
 use Rattle.rules.specs.declared.Setup.{Setup}
-use Rattle.rules.specs.Held.{World, world, holding, powered, bulkOut, bulkIn, configuring, inPhase, halted}
+use Rattle.rules.specs.Held.{World, Start, world, holding, powered, bulkOut, bulkIn, configuring, inPhase, halted}
 use Rattle.rules.specs.Changes.{made, drops}
 use Rattle.rules.specs.Stopping.{clearsPipe}
 use Rattle.rules.specs.Requests.{Named, Unknown, Known, Describes, setupOf, requestOf, isA, changeBy, bytesAfter, memoryAfter}
@@ -264,9 +263,9 @@ boundary-unheld v w (EndMark room) = refl
 
 -- ---- demand 3: the stop that a damaged packet makes of the bridge before it, how it lasts, and how the bridge is when it ends
 
-module _ {dock : Dock} {memory : List ℕ} {history : List Event} {d : Event} {since : List Event} (s : Stop rules dock memory history d since) where
+module _ {start : Start} {memory : List ℕ} {history : List Event} {d : Event} {since : List Event} (s : Stop rules start memory history d since) where
   abbrev before : World
-  before = after rules (powered dock memory) history
+  before = after rules (powered start memory) history
 
   stopped : step before d .next ≡ world (configuring true (made Stops (before .bridge))) (before .bytes) (before .memory)
   stopped = damage-stops before d (s .ready) (s .damages)
@@ -281,11 +280,11 @@ module _ {dock : Dock} {memory : List ℕ} {history : List Event} {d : Event} {s
       ∙ writes-unheld before (step before d .next) since
 
 pub silence : Silence rules
-silence dock memory history d since s =
+silence start memory history d since s =
     let q = damage-silent (before s) d (s .damages) in (q .0, q .1, lasted s .silent)
 
 pub resumption : Resumption rules
-resumption dock memory history d since b s f =
+resumption start memory history d since b s f =
     let stop : World = after rules (step (before s) d .next) since in
     let left : World = after rules (before s) (keptWrites rules (step (before s) d .next) since) in
     let sets : Bool = accepts rules SetConfiguration stop b || isBusReset b in
@@ -295,7 +294,7 @@ resumption dock memory history d since b s f =
     ∙ boundary-unheld left stop b)
 
 pub no-end-without-reset : NoEndWithoutReset rules
-no-end-without-reset dock memory history d since b s f = rw or-false at (ending (course (lasted s .lasts) b) (rw f) .1 f)
+no-end-without-reset start memory history d since b s f = rw or-false at (ending (course (lasted s .lasts) b) (rw f) .1 f)
 
 -- reset recovery calms every stop
 recovered : {r : Bool} {w : World} → Stands r w
@@ -312,6 +311,6 @@ recovered {r = r} (stands b bytes memory held h) = go (b .halts .outward) (b .ha
     go false false h = absurd (false≢true h)
 
 pub recovers : Recovery rules
-recovers dock memory history d since s =
+recovers start memory history d since s =
     let q = recovered (lasted s .lasts) in
     (rw after-append (q .0 ∙ resumed s), rw after-append (q .1 ∙ resumed s))

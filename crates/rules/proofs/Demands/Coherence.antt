@@ -16,7 +16,7 @@ use Rattle.rules.specs.declared.Phase.{Phase}
 use Rattle.rules.specs.declared.Phase.the-variants.{Awaiting, Busy, StatusWaiting, Stopped}
 use Rattle.rules.specs.declared.Request.the-variants.{LoadConfigData}
 use Rattle.rules.specs.declared.Setup.{Setup}
-use Rattle.rules.specs.Words.{one, Check, first}
+use Rattle.rules.specs.Words.{one, Check, first, over}
 use Rattle.rules.specs.Held.{World, world, holding, powered, configuration, isStopped}
 use Rattle.rules.specs.Changes.{made, drops}
 use Rattle.rules.specs.Stopping.{clears, clearFeature, massStorageReset, softReset}
@@ -156,13 +156,13 @@ unfolding step change requestOf requestAnswer
 configuration-told w = simp and-false (refl, refl)
 
 pub configuration-is-told : ConfigurationIsTold rules
-configuration-is-told dock memory history =
-    let t = configuration-told (after rules (powered dock memory) history) in
-    (t .0, t .1 ∙ ap (λ (c : ℕ). c ∷ []) (run-sets (powered dock memory) history))
+configuration-is-told start memory history =
+    let t = configuration-told (after rules (powered start memory) history) in
+    (t .0, t .1 ∙ ap (λ (c : ℕ). c ∷ []) (run-sets (powered start memory) history))
 
 pub bus-reset-is-power-on : BusResetIsPowerOn rules
 unfolding step change
-bus-reset-is-power-on w memory = refl
+bus-reset-is-power-on w settings memory = refl
 
 -- no change is of the dock
 fixed : (c : Change) (b : Bridge) → made c b .dock ≡ b .dock
@@ -186,14 +186,14 @@ run-fixed w [] = refl
 run-fixed w (e ∷ es) = run-fixed (step w e .next) es ∙ fixed (change w e) (w .bridge)
 
 pub dock-is-fixed : DockIsFixed rules
-dock-is-fixed dock memory history = run-fixed (powered dock memory) history
+dock-is-fixed start memory history = run-fixed (powered start memory) history
 
 pub configuration-restarts : ConfigurationRestarts rules
 unfolding step change requestOf requestAnswer
 configuration-restarts w = simp and-false (refl, refl, refl, refl)
 
 pub power-on-is-read : PowerOnIsRead rules
-unfolding step change requestOf requestAnswer address
+unfolding step change requestOf requestAnswer address over
 power-on-is-read dock memory = (refl, refl)
 
 -- ---- pipes

@@ -1,5 +1,6 @@
 -- The P examples and the story of a stop, computed.
 use mathlib.Core.Path.{refl}
+use Rattle.rules.specs.Words.{over}
 use Rattle.rules.specs.Requests.{requestOf, address, onePage}
 use Rattle.rules.specs.Packets.{valid, meaningful, recognised}
 use Rattle.rules.specs.Operations.{operationsOf}
@@ -9,9 +10,9 @@ use Rattle.rules.specs.Step.{change, step, rules}
 use Rattle.rules.specs.Demands.Examples.{Examples, Story}
 
 pub examples : Examples rules
-unfolding step change requestOf address onePage requestAnswer packetAnswer reportAnswer statusAnswer valid meaningful recognised operationsOf malformed mismatch
+unfolding over step change requestOf address onePage requestAnswer packetAnswer reportAnswer statusAnswer valid meaningful recognised operationsOf malformed mismatch
 examples dock = refl
 
 pub a-stop : Story rules
-unfolding step change requestOf address onePage requestAnswer packetAnswer reportAnswer statusAnswer valid meaningful recognised operationsOf malformed mismatch
+unfolding over step change requestOf address onePage requestAnswer packetAnswer reportAnswer statusAnswer valid meaningful recognised operationsOf malformed mismatch
 a-stop dock = refl

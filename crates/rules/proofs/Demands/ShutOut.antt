@@ -7,7 +7,8 @@ use native.Mathlib.Omega.{arith}
 use lib.Dec.{eqb}
 use lib.ListN.{length}
 use Rattle.rules.specs.declared.Dock.{Dock}
-use Rattle.rules.specs.Held.{World, isAwaiting}
+use Rattle.rules.specs.Words.{over}
+use Rattle.rules.specs.Held.{World, Start, byDefault, isAwaiting}
 use Rattle.rules.specs.Requests.{requestOf, address, onePage}
 use Rattle.rules.specs.Packets.{valid, meaningful, recognised}
 use Rattle.rules.specs.Operations.{operationsOf}
@@ -23,12 +24,15 @@ use Rattle.rules.specs.Demands.ShutOut.{performsFirst, ShutOut}
 abbrev dock : Dock
 dock = record { «bus_powered» = false }
 
+abbrev start : Start
+start = byDefault dock
+
 abbrev configured : World
-configured = reached rules dock [] (configure ∷ [])
+configured = reached rules start [] (configure ∷ [])
 
 -- a bridge that has performed its first command
 abbrev performed : World × Bool
-performed = reached performsFirst dock [] (configure ∷ identify 0x80 ∷ Report 1 0 512 ∷ StatusRequest 13 ∷ [])
+performed = reached performsFirst start [] (configure ∷ identify 0x80 ∷ Report 1 0 512 ∷ StatusRequest 13 ∷ [])
 
 -- a bridge that a damaged packet finds ready
 calm : Ready configured
@@ -42,13 +46,13 @@ differ : {A : Type 0} (test : A → Bool) {x y : A} → x ≡ y → test x ≡ t
 differ test e p q = true≢false (sym p ∙ ap test e ∙ q)
 
 pub shut-out : ShutOut
-unfolding step change requestOf address onePage requestAnswer packetAnswer reportAnswer statusAnswer valid meaningful recognised operationsOf malformed mismatch
+unfolding over step change requestOf address onePage requestAnswer packetAnswer reportAnswer statusAnswer valid meaningful recognised operationsOf malformed mismatch
 shut-out = (
   λ h. false≢true (h dock),
   λ h. differ (eqb 0) (h configured (wire 0xC0 0x02 0 4 1) [] 1 refl refl refl refl .1 0 (omega arith)) refl refl,
   λ h. differ (eqb 0x24) (h configured (wire 0x40 0x01 0 4 1) (0x25 ∷ []) 0 refl refl refl .0 .1 4) refl refl,
   λ h. differ (λ (l : List ℕ). eqb (length l) 0) (h performed (identifying 0x80) 11 refl) refl refl,
-  λ h. differ (λ (l : List ℕ). eqb (length l) 5) (h dock [] (configure ∷ []) (Packet [] 0) (identify 0x80 ∷ []) (record { ready = calm; damages = refl; lasts = refl }) .2 .0) refl refl,
-  λ h. differ waits (sym (h dock [] (configure ∷ []) (Packet [] 0) [] BusReset (record { ready = calm; damages = refl; lasts = refl }) refl)) refl refl,
+  λ h. differ (λ (l : List ℕ). eqb (length l) 5) (h start [] (configure ∷ []) (Packet [] 0) (identify 0x80 ∷ []) (record { ready = calm; damages = refl; lasts = refl }) .2 .0) refl refl,
+  λ h. differ waits (sym (h start [] (configure ∷ []) (Packet [] 0) [] BusReset (record { ready = calm; damages = refl; lasts = refl }) refl)) refl refl,
   λ h. differ (λ (l : List ℕ). eqb (length l) 6) (h configured (identifying 0x80) 11 refl) refl refl,
 )

@@ -8,13 +8,12 @@ use Rattle.rules.specs.declared.Bridge.{Bridge}
 use Rattle.rules.specs.declared.Change.{Change}
 use Rattle.rules.specs.declared.Change.the-variants.{Nothing, Sets, Awaits, Resets, Drops, Begins, Finishes, Stops, Notes, Clears, Ends}
 use Rattle.rules.specs.declared.Direction.the-variants.{Out, In}
-use Rattle.rules.specs.declared.Dock.{Dock}
 use Rattle.rules.specs.declared.Phase.{Phase}
 use Rattle.rules.specs.declared.Phase.the-variants.{Awaiting, Busy, StatusWaiting, Stopped}
 use Rattle.rules.specs.declared.Request.the-variants.{SetConfiguration, GetConfiguration, ClearFeature, GetStatus, GetMaxLun, MassStorageReset, LoadConfigData, ReadConfigData, SoftReset, BogusRead}
 use Rattle.rules.specs.declared.Setup.{Setup}
 use Rattle.rules.specs.Words.{long}
-use Rattle.rules.specs.Held.{World, powered, isStopped}
+use Rattle.rules.specs.Held.{World, Start, powered, isStopped}
 use Rattle.rules.specs.Bursts.{tooLong}
 use Rattle.rules.specs.Changes.{made, drops}
 use Rattle.rules.specs.Requests.{Named, Unknown, Known, Describes, setupOf, requestOf, changeBy}
@@ -118,8 +117,8 @@ pub measured : (w : World) (history : List Event) → Measured w → AllOfBytes 
 measured w [] n h = n
 measured w (e ∷ es) n h = measured (step w e .next) es (stepped w e n (h .0)) (h .1)
 
-pub measured-on : (dock : Dock) (memory : List ℕ) → Measured (powered dock memory)
-measured-on dock memory = (tt, none)
+pub measured-on : (start : Start) (memory : List ℕ) → Measured (powered start memory)
+measured-on start memory = (tt, none)
 
 pub stays-sized : StaysSized rules
-stays-sized dock memory history h = measured (powered dock memory) history (measured-on dock memory) h .0
+stays-sized start memory history h = measured (powered start memory) history (measured-on start memory) h .0

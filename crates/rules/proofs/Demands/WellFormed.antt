@@ -241,5 +241,7 @@ run w [] g h = g
 run w (e ∷ es) g h = run (step w e .next) es (stepped w g e (h .0)) (h .1)
 
 pub stays-well-formed : StaysWellFormed rules
-stays-well-formed dock memory history m h =
-    run (powered dock memory) history (record { sixteen = refl; bytes = bytes-tested powerOnBytes refl; memory = m; phase = refl; held = omega arith }) h
+stays-well-formed start memory history s m h =
+    let sixteen = over-length powerOnBytes 2 (start .settings) in
+    let bytes = bytes-over powerOnBytes 2 (start .settings) (bytes-tested powerOnBytes refl) s in
+    run (powered start memory) history (record { sixteen = sixteen; bytes = bytes; memory = m; phase = refl; held = omega arith }) h

@@ -3,12 +3,11 @@ use mathlib.Core.Path.{_≡_}
 use mathlib.Core.Bool.{Bool, true, false, cond, not, _&&_, _||_}
 use mathlib.Core.List.{List, [], _∷_, _++_}
 use Prim.Native.Nat.{ℕ, _/_, _%_}
-use Rattle.rules.specs.declared.Dock.{Dock}
 use Rattle.rules.specs.declared.Request.{Request}
 use Rattle.rules.specs.declared.Request.the-variants.{SetConfiguration, ClearFeature, MassStorageReset, LoadConfigData}
 use Rattle.rules.specs.declared.Phase.the-variants.{Awaiting, Stopped}
 use Rattle.rules.specs.Words.{byte}
-use Rattle.rules.specs.Held.{World, world, holding, bulkOut, bulkIn, inPhase, halted}
+use Rattle.rules.specs.Held.{World, Start, world, holding, bulkOut, bulkIn, inPhase, halted}
 use Rattle.rules.specs.Requests.{Named, Unknown, setupOf, requestOf, isA}
 use Rattle.rules.specs.Demands.Refusals.{damages as isDamage}
 use Rattle.rules.specs.Demands.Requests.{ordering}
@@ -87,23 +86,23 @@ Silent m s [] = Unit {0}
 Silent m s (e ∷ es) = (m .takes s e .operations ≡ []) × (statusIn e (m .takes s e) ≡ []) × Silent m (m .takes s e .next) es
 
 -- a stop, after any history from power-on: the damaged packet d, and the events since, none of them the boundary
-pub record Stop (m : Machine) (dock : Dock) (memory : List ℕ) (history : List Event) (d : Event) (since : List Event) : Type 0 where
-  pub ready : Ready (m .shows (reached m dock memory history))
-  pub damages : isDamage (m .takes (reached m dock memory history) d .answer) ≡ true
-  pub lasts : unbroken m (m .takes (reached m dock memory history) d .next) since ≡ true
+pub record Stop (m : Machine) (start : Start) (memory : List ℕ) (history : List Event) (d : Event) (since : List Event) : Type 0 where
+  pub ready : Ready (m .shows (reached m start memory history))
+  pub damages : isDamage (m .takes (reached m start memory history) d .answer) ≡ true
+  pub lasts : unbroken m (m .takes (reached m start memory history) d .next) since ≡ true
 
 -- "Until the boundary named in document 01, no register operation and no status packet is handed out."
 abbrev pub Silence : Machine → Type 0
 Silence m =
-    (dock : Dock) (memory : List ℕ) (history : List Event) (d : Event) (since : List Event) → Stop m dock memory history d since
-    → Silent m (reached m dock memory history) (d ∷ since)
+    (start : Start) (memory : List ℕ) (history : List Event) (d : Event) (since : List Event) → Stop m start memory history d since
+    → Silent m (reached m start memory history) (d ∷ since)
 
 -- "After it, the bridge is in the state of one that never received the damaged packet nor anything since, save accepted vendor writes and the
 -- bus reset or configuration change, if one was the boundary." "The bridge compared with holds no fragments."
 abbrev pub Resumption : Machine → Type 0
 Resumption m =
-    (dock : Dock) (memory : List ℕ) (history : List Event) (d : Event) (since : List Event) (b : Event) → Stop m dock memory history d since
-    → (let s : m .State = reached m dock memory history in
+    (start : Start) (memory : List ℕ) (history : List Event) (d : Event) (since : List Event) (b : Event) → Stop m start memory history d since
+    → (let s : m .State = reached m start memory history in
     let stopped : m .State = m .takes s d .next in
     boundary m (after m stopped since) b ≡ true
     → m .shows (after m s (d ∷ since ++ b ∷ []))
@@ -117,8 +116,8 @@ resetAmong m s (e ∷ es) = accepts m MassStorageReset s e || resetAmong m (m .t
 -- "Before a Mass Storage Reset, Clear Feature answers 0 and clears nothing": Clear Feature alone never ends a stop.
 abbrev pub NoEndWithoutReset : Machine → Type 0
 NoEndWithoutReset m =
-    (dock : Dock) (memory : List ℕ) (history : List Event) (d : Event) (since : List Event) (b : Event) → Stop m dock memory history d since
-    → (let stopped : m .State = m .takes (reached m dock memory history) d .next in
+    (start : Start) (memory : List ℕ) (history : List Event) (d : Event) (since : List Event) (b : Event) → Stop m start memory history d since
+    → (let stopped : m .State = m .takes (reached m start memory history) d .next in
     clearsSecond m (after m stopped since) b ≡ true → resetAmong m stopped since ≡ true)
 
 -- ---- BOT's reset recovery ends every stop, whichever pipe is cleared first.
@@ -128,8 +127,8 @@ recovery first second = ordering 0x21 0xFF 0 0 ∷ ordering 0x02 0x01 0 first �
 
 abbrev pub Recovery : Machine → Type 0
 Recovery m =
-    (dock : Dock) (memory : List ℕ) (history : List Event) (d : Event) (since : List Event) → Stop m dock memory history d since
-    → (let s : m .State = reached m dock memory history in
+    (start : Start) (memory : List ℕ) (history : List Event) (d : Event) (since : List Event) → Stop m start memory history d since
+    → (let s : m .State = reached m start memory history in
     let end : World = holding [] (m .shows (after m s (keptWrites m (m .takes s d .next) since))) in
     (m .shows (after m s (d ∷ since ++ recovery bulkOut bulkIn)) ≡ end)
     × (m .shows (after m s (d ∷ since ++ recovery bulkIn bulkOut)) ≡ end))

@@ -11,7 +11,7 @@ use Rattle.rules.specs.declared.Direction.the-variants.{Out, In}
 use Rattle.rules.specs.declared.Dock.{Dock}
 use Rattle.rules.specs.declared.Phase.the-variants.{Awaiting}
 use Rattle.rules.specs.Words.{byte, word, one}
-use Rattle.rules.specs.Held.{World, world, isStopped}
+use Rattle.rules.specs.Held.{World, Start, world, starting, byDefault, isStopped}
 use Rattle.rules.specs.Step.{Event, BusReset, Control, Packet, Report, StatusRequest, Burst, EndMark, Outcome, Machine, after, reached, done}
 use Rattle.rules.specs.Demands.Refusals.{damages}
 use Rattle.rules.specs.Demands.Requests.{wire, asking, ordering}
@@ -41,19 +41,19 @@ configured m s (e ∷ es) c = configured m (m .takes s e .next) es (cond (done (
 -- After any history Get Configuration replies what the last bus reset or accepted Set Configuration left, at power-on 0, as one byte.
 abbrev pub ConfigurationIsTold : Machine → Type 0
 ConfigurationIsTold m =
-    (dock : Dock) (memory : List ℕ) (history : List Event)
-    → Replies (m .takes (reached m dock memory history) (asking 0x80 0x08 0 0 1)) (configured m (m .on dock memory) history 0 ∷ [])
+    (start : Start) (memory : List ℕ) (history : List Event)
+    → Replies (m .takes (reached m start memory history) (asking 0x80 0x08 0 0 1)) (configured m (m .on start memory) history 0 ∷ [])
 
 -- "A bus reset restores those three; configuration bytes and memory stay": the bridge is that of the dock's power-on.
 abbrev pub BusResetIsPowerOn : Machine → Type 0
 BusResetIsPowerOn m =
-    (s : m .State) (memory : List ℕ)
+    (s : m .State) (settings memory : List ℕ)
     → (let w : World = m .shows s in
-    m .shows (m .takes s BusReset .next) ≡ world (m .shows (m .on (w .bridge .dock) memory) .bridge) (w .bytes) (w .memory))
+    m .shows (m .takes s BusReset .next) ≡ world (m .shows (m .on (starting (w .bridge .dock) settings) memory) .bridge) (w .bytes) (w .memory))
 
 -- What is fixed at power-on stays so.
 abbrev pub DockIsFixed : Machine → Type 0
-DockIsFixed m = (dock : Dock) (memory : List ℕ) (history : List Event) → m .shows (reached m dock memory history) .bridge .dock ≡ dock
+DockIsFixed m = (start : Start) (memory : List ℕ) (history : List Event) → m .shows (reached m start memory history) .bridge .dock ≡ start .dock
 
 -- Set Configuration, of any bridge, leaves what a bus reset and then it leave; of 0, what a bus reset leaves.
 abbrev pub ConfigurationRestarts : Machine → Type 0
@@ -69,7 +69,7 @@ ConfigurationRestarts m =
 abbrev pub PowerOnIsRead : Machine → Type 0
 PowerOnIsRead m =
     (dock : Dock) (memory : List ℕ)
-    → Replies (m .takes (reached m dock memory (ordering 0x00 0x09 2 0 ∷ [])) (asking 0xC0 0x02 0 0 16))
+    → Replies (m .takes (reached m (byDefault dock) memory (ordering 0x00 0x09 2 0 ∷ [])) (asking 0xC0 0x02 0 0 16))
     (0 ∷ 0 ∷ 0 ∷ 0 ∷ 0x24 ∷ 0 ∷ 0 ∷ 0 ∷ 0 ∷ 0 ∷ 0 ∷ 0 ∷ 0 ∷ 0 ∷ 0 ∷ 0 ∷ [])
 
 -- ---- pipes

@@ -8,7 +8,7 @@ use lib.Dec.{eqb}
 use Rattle.rules.specs.declared.Dock.{Dock}
 use Rattle.rules.specs.declared.Phase.{Phase}
 use Rattle.rules.specs.declared.Phase.the-variants.{Awaiting, Busy, StatusWaiting, Stopped}
-use Rattle.rules.specs.Held.{World, bulkOut, bulkIn}
+use Rattle.rules.specs.Held.{World, byDefault, bulkOut, bulkIn}
 use Rattle.rules.specs.Step.{Event, Control, Packet, Report, StatusRequest, Outcome, Machine, after, reached}
 use Rattle.rules.specs.Demands.Requests.{wire, ordering}
 use Rattle.rules.specs.Demands.Boundary.{unbroken, boundary, keptWrites}
@@ -33,7 +33,7 @@ identify action = Packet (identifying action) 11
 
 -- "Configured, M = 2,048 unless told."
 abbrev pub ready : (m : Machine) → Dock → m .State
-ready m dock = reached m dock (replicate 2048 0xFF) (configure ∷ [])
+ready m dock = reached m (byDefault dock) (replicate 2048 0xFF) (configure ∷ [])
 
 -- ---- what is right of an outcome, with what shows of the state that it leaves
 

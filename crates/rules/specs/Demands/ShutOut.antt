@@ -68,7 +68,7 @@ performing (w, performed) e =
     leaving (o .next, performed || ltb 0 (length (o .operations))) o
 
 abbrev pub performsFirst : Machine
-performsFirst = record { State = World × Bool; on = λ dock memory. (powered dock memory, false); shows = λ s. s .0; takes = performing }
+performsFirst = record { State = World × Bool; on = λ start memory. (powered start memory, false); shows = λ s. s .0; takes = performing }
 
 -- "A bridge that never stops"
 abbrev pub neverStops : Machine

@@ -3,9 +3,9 @@ use mathlib.Core.List.{List, [], _∷_}
 use Prim.Native.Nat.{ℕ, _^_, _<_}
 use Rattle.rules.specs.declared.Change.{Change}
 use Rattle.rules.specs.declared.Change.the-variants.{Nothing, Sets, Awaits, Resets, Drops, Begins, Finishes, Stops, Notes, Clears, Ends}
-use Rattle.rules.specs.declared.Dock.{Dock}
 use Rattle.rules.specs.declared.Phase.{Phase}
 use Rattle.rules.specs.declared.Phase.the-variants.{Awaiting, Busy, StatusWaiting, Stopped}
+use Rattle.rules.specs.Held.{Start}
 use Rattle.rules.specs.Step.{Event, BusReset, Control, Packet, Report, StatusRequest, Burst, EndMark, Machine, reached}
 use Rattle.rules.specs.Demands.WellFormed.{Bytes}
 
@@ -48,4 +48,4 @@ Sized Ends = Unit {0}
 
 abbrev pub StaysSized : Machine → Type 0
 StaysSized m =
-    (dock : Dock) (memory : List ℕ) (history : List Event) → AllOfBytes history → Numbers (m .shows (reached m dock memory history) .bridge .phase)
+    (start : Start) (memory : List ℕ) (history : List Event) → AllOfBytes history → Numbers (m .shows (reached m start memory history) .bridge .phase)

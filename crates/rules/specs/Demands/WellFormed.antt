@@ -6,12 +6,11 @@ use Prim.Native.Nat.{ℕ, _<_, _≤_}
 use lib.ListN.{length}
 use lib.Dec.{leb, ltb}
 use Rattle.rules.specs.declared.Direction.the-variants.{Out, In}
-use Rattle.rules.specs.declared.Dock.{Dock}
 use Rattle.rules.specs.declared.Halts.{Halts}
 use Rattle.rules.specs.declared.Phase.{Phase}
 use Rattle.rules.specs.declared.Phase.the-variants.{Awaiting, Busy, StatusWaiting, Stopped}
 use Rattle.rules.specs.Words.{byte}
-use Rattle.rules.specs.Held.{World}
+use Rattle.rules.specs.Held.{World, Start}
 use Rattle.rules.specs.Step.{Event, BusReset, Control, Packet, Report, StatusRequest, Burst, EndMark, Machine, reached}
 
 abbrev pub Bytes : List ℕ → Type 0
@@ -51,4 +50,5 @@ pub record WellFormed (w : World) : Type 0 where
 
 abbrev pub StaysWellFormed : Machine → Type 0
 StaysWellFormed m =
-    (dock : Dock) (memory : List ℕ) (history : List Event) → Bytes memory → ProperAll history → WellFormed (m .shows (reached m dock memory history))
+    (start : Start) (memory : List ℕ) (history : List Event) → Bytes (start .settings) → Bytes memory → ProperAll history
+    → WellFormed (m .shows (reached m start memory history))

@@ -1,0 +1,5 @@
+pub mod Records
+pub mod Stores
+pub mod Loop
+pub mod Making
+pub mod Unique

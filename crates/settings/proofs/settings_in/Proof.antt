@@ -1,0 +1,71 @@
+-- `settings::settings_in` meets its contract.
+use mathlib.Core.Path.{refl, sym, _∙_}
+use native.Mathlib.Omega.{arith}
+use borrow.Author.Needs.{needs}
+use Rattle.settings.specs.Store.{newest}
+use Rattle.settings.proofs.Records.{eighteen, plain-there, nineteen, keeping-there}
+use Rattle.settings.proofs.settings_in.Statement.{statement}
+use Rattle.settings.proofs.settings_in.Tie as tie
+
+slice-aggregate-copy : tie.Need-slice-aggregate-copy
+slice-aggregate-copy c = search needs
+
+add-copy : tie.Need-add-copy
+add-copy c = search needs
+
+sub-copy : tie.Need-sub-copy
+sub-copy c = search needs
+
+part-copy-start : tie.Need-part-copy-start
+part-copy-start c = search needs
+
+part-copy-end : tie.Need-part-copy-end
+part-copy-end c = omega (arith, eighteen newest (c .before .before .args .store .now) (c .before .before .pre))
+
+copy-requires : tie.Need-copy-requires
+copy-requires c κs = search needs
+
+shared-slice-read-word : tie.Need-shared-slice-read-word
+shared-slice-read-word c = let start = c .before .before .before .before .before .before in omega (arith, eighteen newest (start .args .store .now) (start .pre))
+
+shared-slice-read-word-2 : tie.Need-shared-slice-read-word-2
+shared-slice-read-word-2 c = let start = c .before .before .before .before .before .before .before in omega (arith, eighteen newest (start .args .store .now) (start .pre))
+
+word-requires : tie.Need-word-requires
+word-requires c κs = search needs
+
+add-kept : tie.Need-add-kept
+add-kept c = search needs
+
+shared-slice-read-kept : tie.Need-shared-slice-read-kept
+shared-slice-read-kept c =
+    let start = c .before .before .before .before .before .before .before .before .before .before in
+    nineteen newest (start .args .store .now) (start .pre) (λ e. c .before .if1 .left (c .before .before .word .ensures ∙ e))
+
+returns : tie.Need-returns
+returns c =
+    let start = c .before .before .before .before .before .before .before .before .before in
+    plain-there newest (start .args .store .now) (start .pre) _ refl (c .before .before .before .before .before .copy .ensures) (sym (c .before .word .ensures) ∙ c .if1 .taken)
+
+returns-2 : tie.Need-returns-2
+returns-2 c =
+    let start = c .before .before .before .before .before .before .before .before .before .before in
+    keeping-there newest (start .args .store .now) (start .pre) (λ e. c .before .if1 .left (c .before .before .word .ensures ∙ e)) _ refl (c .before .before .before .before .before .before .copy .ensures)
+
+pub settings-in-spec : {M : Type 1} → statement M
+settings-in-spec =
+    tie.close
+    (tie.spec
+    slice-aggregate-copy
+    add-copy
+    sub-copy
+    part-copy-start
+    part-copy-end
+    copy-requires
+    shared-slice-read-word
+    shared-slice-read-word-2
+    word-requires
+    add-kept
+    shared-slice-read-kept
+    returns
+    returns-2)

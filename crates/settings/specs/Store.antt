@@ -1,0 +1,106 @@
+-- A settings store: request 5 of document 02, in its order and words.
+use Prim.Native.Nat.{ℕ, zero, suc, _+_, _/_, _%_}
+use mathlib.Core.Bool.{Bool, cond, not, _&&_, _||_}
+use mathlib.Core.List.{List, [], _∷_, _++_}
+use lib.ListN.{length, take, drop}
+use lib.Dec.{eqb, leb, ltb}
+use Rattle.rules.specs.Words.{byte, word, Check, _if_, first, laid}
+use Rattle.rules.specs.Held.{defaults}
+use Rattle.rules.specs.Step.{done}
+use Rattle.settings.specs.declared.Settings.{Settings}
+use Rattle.settings.specs.declared.Reading.{Reading}
+
+-- ---- "A store is a run of records: payload length (2, low first), kind (2, low first), payload."
+
+abbrev pub lengthIn : List ℕ → ℕ
+lengthIn s = word 0 s
+
+abbrev pub kindIn : List ℕ → ℕ
+kindIn s = word 2 s
+
+abbrev pub payloadIn : List ℕ → List ℕ
+payloadIn s = take (lengthIn s) (drop 4 s)
+
+-- a record, as it is made
+abbrev pub bytes2 : ℕ → List ℕ
+bytes2 n = n % 256 ∷ n / 256 % 256 ∷ []
+
+abbrev pub recordOf : ℕ → List ℕ → List ℕ
+recordOf kind payload = bytes2 (length payload) ++ bytes2 kind ++ payload
+
+-- ---- "Kind 0x0101 is fourteen bytes for addresses 2 to F. Kind 0x0102 is the same and one byte more, kept for the next edition; 0x0101 reads as 0 there."
+
+abbrev pub settingsFrom : List ℕ → ℕ → Settings
+settingsFrom bytes kept = record { bytes = bytes; kept = kept }
+
+abbrev pub lengthOf : ℕ → ℕ
+lengthOf kind = cond (eqb kind 0x0101) 14 15
+
+abbrev pub settingsOf : ℕ → List ℕ → Settings
+settingsOf kind payload = settingsFrom (take 14 payload) (cond (eqb kind 0x0101) 0 (byte 14 payload))
+
+-- a reader knows the kinds that there are, up to the newest of its edition
+abbrev pub knows : ℕ → ℕ → Bool
+knows newest kind = leb kind newest && (eqb kind 0x0101 || eqb kind 0x0102)
+
+-- ---- "Refusals: 20 cut record, 21 unknown kind, 22 payload length wrong for its kind, 23 no record; judged record by record from the front, in that
+-- order within a record, the first found is answered."
+
+-- of the record at the front of s
+abbrev pub recordChecks : ℕ → List ℕ → List Check
+recordChecks newest s =
+    20 if ltb (length s) (4 + lengthIn s)
+    ∷ 21 if not (knows newest (kindIn s))
+    ∷ 22 if not (eqb (lengthIn s) (lengthOf (kindIn s)))
+    ∷ []
+
+-- "refuses by number and shows nothing": the settings that come with a refusal are the defaults
+abbrev pub hidden : Settings
+hidden = settingsFrom defaults 0
+
+abbrev pub refused : ℕ → Reading
+refused number = record { answer = number; settings = hidden }
+
+unfoldable pub recordRead : ℕ → List ℕ → Reading
+recordRead newest s =
+    let answer : ℕ = first (recordChecks newest s) in
+    record { answer = answer; settings = cond (done answer) (settingsOf (kindIn s) (payloadIn s)) hidden }
+
+-- "The last record is the settings": what was read so far stands until the next record is read; of the record before, so much is still ahead
+unfoldable pub readsOn : ℕ → ℕ → Reading → List ℕ → Reading
+readsOn newest ahead so-far [] = so-far
+readsOn newest (suc ahead) so-far (b ∷ s) = readsOn newest ahead so-far s
+readsOn newest zero so-far (b ∷ s) =
+    let r : Reading = recordRead newest (b ∷ s) in
+    cond (done (r .answer)) (readsOn newest (3 + lengthIn (b ∷ s)) r s) r
+
+abbrev pub reads : ℕ → List ℕ → Reading
+reads newest store = readsOn newest 0 (refused 23) store
+
+-- ---- "The writer makes one record of the newest kind it knows." "Writer: 29 less room than the record, nothing written."
+
+-- the newest kind of this edition
+abbrev pub newest : ℕ
+newest = 0x0102
+
+-- how long such a record is
+abbrev pub recordLength : ℕ
+recordLength = 4 + lengthOf newest
+
+abbrev pub payloadOf : Settings → List ℕ
+payloadOf s = s .bytes ++ s .kept ∷ []
+
+abbrev pub written : Settings → List ℕ
+written s = recordOf newest (payloadOf s)
+
+pub record Written : Type 0 where
+  pub answer : ℕ
+  pub room : List ℕ
+
+abbrev pub leaves : ℕ → List ℕ → Written
+leaves answer room = record { answer = answer; room = room }
+
+abbrev pub writes : Settings → List ℕ → Written
+writes s room =
+    let answer : ℕ = first (29 if ltb (length room) recordLength ∷ []) in
+    leaves answer (cond (done answer) (laid (written s) room) room)

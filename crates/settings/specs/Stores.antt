@@ -1,0 +1,67 @@
+-- What holds of stores, over every edition of the reader: proved in proofs/Stores.
+use Prim.Native.Nat.{ℕ, _+_, _<_, _≤_}
+use mathlib.Core.Path.{_≡_}
+use mathlib.Core.Logic.{_⊎_}
+use mathlib.Core.List.{List, [], _∷_, _++_}
+use lib.ListN.{length, take}
+use Rattle.settings.specs.declared.Settings.{Settings}
+use Rattle.settings.specs.declared.Reading.{Reading}
+use Rattle.settings.specs.Store.{lengthIn, kindIn, recordOf, settingsFrom, lengthOf, hidden, refused, reads, newest, recordLength, written}
+
+-- good settings: number 0
+abbrev pub accepted : Settings → Reading
+accepted s = record { answer = 0; settings = s }
+
+-- nothing, or records that are good by a reader that knows kinds up to k
+abbrev pub Good : ℕ → List ℕ → Type 0
+Good k front = (front ≡ []) ⊎ (reads k front .answer ≡ 0)
+
+-- "The last record is the settings": good records are as if they were not there, once another follows, whatever it is.
+abbrev pub LastCounts : Type 0
+LastCounts = (k : ℕ) (front rest : List ℕ) → Good k front → 0 < length rest → reads k (front ++ rest) ≡ reads k rest
+
+-- "Kind 0x0101 is fourteen bytes .. Kind 0x0102 is the same and one byte more .. ; 0x0101 reads as 0 there."
+abbrev pub RecordIsRead : Type 0
+RecordIsRead =
+    (k : ℕ) (bytes : List ℕ) (kept : ℕ) → length bytes ≡ 14
+    → (0x0101 ≤ k → reads k (recordOf 0x0101 bytes) ≡ accepted (settingsFrom bytes 0))
+    × (0x0102 ≤ k → reads k (recordOf 0x0102 (bytes ++ kept ∷ [])) ≡ accepted (settingsFrom bytes kept))
+
+-- "Writing then reading gives back the same settings", for all settings: the number is 0. The store is one record, of the newest kind, and as long as the
+-- room that the writer asks for.
+abbrev pub WrittenIsRead : Type 0
+WrittenIsRead =
+    (s : Settings) → length (s .bytes) ≡ 14
+    → (reads newest (written s) ≡ accepted s)
+    × (kindIn (written s) ≡ newest) × (lengthIn (written s) ≡ lengthOf newest) × (length (written s) ≡ recordLength)
+
+-- a kind above the newest that a reader knows, or none of those that there are
+abbrev pub Unfamiliar : ℕ → ℕ → Type 0
+Unfamiliar k kind = (k < kind) ⊎ ((kind ≡ 0x0101 → ⊥) × (kind ≡ 0x0102 → ⊥))
+
+-- "An older reader that meets a kind it doesn't know refuses by number and shows nothing", whatever its payload and whatever follows.
+abbrev pub UnfamiliarIsRefused : Type 0
+UnfamiliarIsRefused =
+    (k kind : ℕ) (front payload rest : List ℕ) → Good k front → Unfamiliar k kind → kind < 65536 → length payload < 65536
+    → reads k (front ++ recordOf kind payload ++ rest) ≡ refused 21
+
+-- "20 cut record": a beginning of a record that is not all of it, whatever its kind and its length.
+abbrev pub CutIsRefused : Type 0
+CutIsRefused =
+    (k kind n : ℕ) (front payload : List ℕ) → Good k front → length payload < 65536 → 0 < n → n < 4 + length payload
+    → reads k (front ++ take n (recordOf kind payload)) ≡ refused 20
+
+-- "22 payload length wrong for its kind", whatever follows.
+abbrev pub OtherLengthIsRefused : Type 0
+OtherLengthIsRefused =
+    (k : ℕ) (front payload rest : List ℕ) → Good k front → length payload < 65536
+    → (0x0101 ≤ k → (length payload ≡ 14 → ⊥) → reads k (front ++ recordOf 0x0101 payload ++ rest) ≡ refused 22)
+    × (0x0102 ≤ k → (length payload ≡ 15 → ⊥) → reads k (front ++ recordOf 0x0102 payload ++ rest) ≡ refused 22)
+
+-- "23 no record"
+abbrev pub NothingIsRefused : Type 0
+NothingIsRefused = (k : ℕ) → reads k [] ≡ refused 23
+
+-- A refused store shows nothing: what comes with the refusal are the defaults, whatever stands in the store.
+abbrev pub RefusedShowsNothing : Type 0
+RefusedShowsNothing = (k : ℕ) (store : List ℕ) → (reads k store .answer ≡ 0 → ⊥) → reads k store .settings ≡ hidden

@@ -1,0 +1,19 @@
+-- `thrandue::thrandue_power_on_with_store` meets its contract.
+use borrow.Author.Needs.{needs}
+use Rattle.thrandue.proofs.thrandue_power_on_with_store.Statement.{statement}
+use Rattle.thrandue.proofs.thrandue_power_on_with_store.Tie as tie
+
+read-requires : tie.Need-read-requires
+read-requires c κs = search needs
+
+power-on-with-requires : tie.Need-power-on-with-requires
+power-on-with-requires c κs = search needs
+
+cast-result : tie.Need-cast-result
+cast-result c = search needs
+
+returns : tie.Need-returns
+returns c = rw (c .before .power-on-with .ensures, c .before .before .before .before .before .read .ensures)
+
+pub thrandue-power-on-with-store-spec : {M : Type 1} → statement M
+thrandue-power-on-with-store-spec = tie.close (tie.spec read-requires power-on-with-requires cast-result returns)
