@@ -12,13 +12,14 @@ static const char help[] =
     "requests one by one, met each answer in each phase before it, - where the paper allows\n"
     "none, and how often with something held.\n"
     "The options hold for the files after them:\n" BENCH_OPTIONS_HELP
-    "Status 0: all is allowed, and met 100 times or more; 1: it is not, an event changed what it\n"
+    "Status 0: all is allowed, and met 100 times or more; 1: it is not, a call changed what it\n"
     "must leave alone, or a session is torn; 2: bad usage, or a file that cannot be read.\n";
 
 enum {
     PHASES = 5,
     ANSWERS = UINT8_MAX + 1,
-    LEAST = 100
+    LEAST = 100,
+    SETTINGS_BYTES = 14
 };
 
 enum event {
@@ -353,10 +354,22 @@ static void count_event(void *context, const struct record *record) {
                 (unsigned)answer, phase_names[phase]);
 }
 
+/* A store changes fourteen bytes of the image that a power-on without it makes, and no more; one
+ * that is refused changes none. */
+static void power_on(struct coverage *coverage, struct bench_options options) {
+    uint8_t answer = bench_open(&coverage->bench, options);
+    options.store = NULL;
+    bench_open(&coverage->before, options);
+    size_t changed = differing(coverage->bench.image, coverage->before.image);
+    if (changed <= (answer == THRANDUE_DONE ? SETTINGS_BYTES : 0))
+        return;
+    coverage->faults++;
+    command_say("power-on, answer %u: changed what it must leave alone", (unsigned)answer);
+}
+
 static int count_session(struct coverage *coverage, const char *name,
                          struct bench_options options) {
-    bench_open(&coverage->bench, options);
-    bench_open(&coverage->before, options);
+    power_on(coverage, options);
     int status = record_each(name, options.bursts, count_event, coverage);
     bench_close(&coverage->bench);
     bench_close(&coverage->before);

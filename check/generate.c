@@ -2,6 +2,7 @@
 #include "bench.h"
 #include "command.h"
 #include "layout.h"
+#include "random.h"
 
 #include <stdio.h>
 #include <string.h>
@@ -43,7 +44,7 @@ enum {
 };
 
 struct generator {
-    uint64_t state;
+    struct random random;
     struct bench bench;
     struct record record;
     /* What the last command that made the bridge busy asked for: reports are drawn around it. */
@@ -55,39 +56,16 @@ struct generator {
     bool cutting;
 };
 
-/* Steele, Lea and Flood's SplitMix64. */
-static uint32_t draw(struct generator *g) {
-    uint64_t z = g->state += UINT64_C(0x9E3779B97F4A7C15);
-    z = (z ^ z >> 30) * UINT64_C(0xBF58476D1CE4E5B9);
-    z = (z ^ z >> 27) * UINT64_C(0x94D049BB133111EB);
-    return (uint32_t)((z ^ z >> 31) >> 32);
-}
-
-static uint32_t below(struct generator *g, uint32_t limit) {
-    return (uint32_t)((uint64_t)draw(g) * limit >> 32);
-}
-
-static bool chance(struct generator *g, uint32_t percent) {
-    return below(g, 100) < percent;
-}
-
-#define PICK(g, row) ((row)[below(g, sizeof(row) / sizeof *(row))])
-
 static void start(struct generator *g, uint16_t kind, uint16_t length) {
     g->record.kind = kind;
     g->record.length = length;
     memset(g->record.payload, 0, length);
 }
 
-static void fill(struct generator *g, uint8_t *bytes, size_t count) {
-    for (size_t i = 0; i < count; i++)
-        bytes[i] = (uint8_t)draw(g);
-}
-
 static void host_data(struct generator *g, uint32_t count) {
     if (count > HOST_DATA_MOST)
         count = HOST_DATA_MOST;
-    fill(g, g->record.payload + SETUP_LENGTH, count);
+    fill(&g->random, g->record.payload + SETUP_LENGTH, count);
     g->record.length = (uint16_t)(SETUP_LENGTH + count);
 }
 
@@ -103,19 +81,19 @@ static void setup(struct generator *g, uint16_t pair, uint32_t value, uint32_t i
 }
 
 static uint32_t pipe_index(struct generator *g) {
-    return chance(g, 50) ? ENDPOINT_OUT : ENDPOINT_IN;
+    return chance(&g->random, 50) ? ENDPOINT_OUT : ENDPOINT_IN;
 }
 
 static uint32_t place(struct generator *g) {
     static const uint16_t others[] = {1, 3, 0x0100, 0x0102, 0x0200, 0x8002, 0xFFFF};
-    if (chance(g, 14))
-        return PICK(g, others);
-    return chance(g, 40) ? PLACE_CONFIGURATION : PLACE_MEMORY;
+    if (chance(&g->random, 14))
+        return PICK(&g->random, others);
+    return chance(&g->random, 40) ? PLACE_CONFIGURATION : PLACE_MEMORY;
 }
 
 static uint32_t configuration_start(struct generator *g) {
     static const uint16_t starts[] = {0, 1, 2, 2, 3, 4, 6, 14, 15, 16, 17, 0x0102, 0x0104, 0xFFFF};
-    return PICK(g, starts);
+    return PICK(&g->random, starts);
 }
 
 static uint32_t fitted_memory(const struct generator *g) {
@@ -127,15 +105,16 @@ static uint32_t memory_start(struct generator *g) {
     static const uint16_t in_page[] = {0, 0, 8, 128, 240, 248, 248, 248, 1, 4, 252, 255};
     static const int16_t from_end[] = {-16, -8, -4, -1, 0, 1, 8, 0x4000};
     uint32_t size = fitted_memory(g);
-    uint32_t page = below(g, (size + PAGE - 1) / PAGE) * PAGE;
-    return chance(g, 20) ? (size + (uint32_t)PICK(g, from_end)) & 0xFFFF : page + PICK(g, in_page);
+    uint32_t page = below(&g->random, (size + PAGE - 1) / PAGE) * PAGE;
+    return chance(&g->random, 20) ? (size + (uint32_t)PICK(&g->random, from_end)) & 0xFFFF
+                                  : page + PICK(&g->random, in_page);
 }
 
 /* Around what is left behind the start, of the place or of the page. */
 static uint32_t count_from(struct generator *g, uint32_t from, uint32_t size) {
     static const uint8_t small[] = {0, 0, 1, 2, 7, 8, 9};
-    uint32_t left = (from < size ? size - from : 0) + below(g, 3) - 1;
-    return chance(g, 40) ? PICK(g, small) : left & 0xFFFF;
+    uint32_t left = (from < size ? size - from : 0) + below(&g->random, 3) - 1;
+    return chance(&g->random, 40) ? PICK(&g->random, small) : left & 0xFFFF;
 }
 
 /* An index whose string may stand across the end of the memory, or well inside it. */
@@ -143,7 +122,7 @@ static uint8_t string_index(struct generator *g) {
     uint32_t end = fitted_memory(g) / 2;
     const uint8_t indexes[] = {
         0x40, 0x60, 0xFF, (uint8_t)(end - 2), (uint8_t)end, (uint8_t)(end - 1), (uint8_t)(end + 1)};
-    return PICK(g, indexes);
+    return PICK(&g->random, indexes);
 }
 
 static uint32_t descriptor_at(struct generator *g, uint8_t type) {
@@ -153,7 +132,7 @@ static uint32_t descriptor_at(struct generator *g, uint8_t type) {
     case DESCRIPTOR_QUALIFIER:
         return QUALIFIER_AT;
     case DESCRIPTOR_CONFIGURATION:
-        return chance(g, 50) ? BUS_POWERED_AT : SELF_POWERED_AT;
+        return chance(&g->random, 50) ? BUS_POWERED_AT : SELF_POWERED_AT;
     default:
         return 2U * string_index(g);
     }
@@ -165,9 +144,9 @@ static void descriptor_head(struct generator *g, uint8_t *head, uint8_t type, ui
     uint32_t left = fitted_memory(g) - at;
     const uint32_t lengths[] = {0,      1,        2,    3,        4,        9,     18,
                                 0x0102, left - 1, left, left + 1, left + 1, 0xFFFF};
-    uint32_t length = PICK(g, lengths);
+    uint32_t length = PICK(&g->random, lengths);
     head[0] = (uint8_t)length;
-    head[1] = chance(g, 90) ? type : (uint8_t)draw(g);
+    head[1] = chance(&g->random, 90) ? type : (uint8_t)draw(&g->random);
     if (type == DESCRIPTOR_CONFIGURATION)
         record_store(head + 2, 2, length);
 }
@@ -177,7 +156,7 @@ static void load_descriptor(struct generator *g) {
     static const uint8_t types[] = {DESCRIPTOR_DEVICE,        DESCRIPTOR_CONFIGURATION,
                                     DESCRIPTOR_CONFIGURATION, DESCRIPTOR_STRING,
                                     DESCRIPTOR_STRING,        DESCRIPTOR_QUALIFIER};
-    uint8_t type = PICK(g, types);
+    uint8_t type = PICK(&g->random, types);
     uint32_t at = descriptor_at(g, type);
     uint32_t before = at % WRITE_ALIGNMENT;
     uint32_t count = before + (type == DESCRIPTOR_CONFIGURATION ? 4 : 2);
@@ -189,16 +168,17 @@ static void load_descriptor(struct generator *g) {
 static void load_first_string(struct generator *g) {
     setup(g, LOAD_CONFIG_DATA, PLACE_CONFIGURATION, FIRST_STRING, 1);
     host_data(g, 1);
-    g->record.payload[SETUP_LENGTH] = chance(g, 20) ? 0 : string_index(g);
+    g->record.payload[SETUP_LENGTH] = chance(&g->random, 20) ? 0 : string_index(g);
 }
 
 static void get_descriptor(struct generator *g) {
     static const uint8_t types[] = {1, 1, 2, 2, 2, 3, 3, 3, 6, 6, 0, 4, 5, 7, 0x22, 0x81, 0x83};
     static const uint16_t lengths[] = {0, 1, 2, 4, 8, 9, 18, 255, 0x0100, 0xFFFF};
     static const uint16_t languages[] = {0, 0, 0x0409, 0x0100, 0xFFFF};
-    uint32_t type = PICK(g, types);
-    uint32_t index = type == DESCRIPTOR_STRING && chance(g, 70) ? string_index(g) : 0;
-    setup(g, GET_DESCRIPTOR, type << 8 | index, PICK(g, languages), PICK(g, lengths));
+    uint32_t type = PICK(&g->random, types);
+    uint32_t index = type == DESCRIPTOR_STRING && chance(&g->random, 70) ? string_index(g) : 0;
+    setup(g, GET_DESCRIPTOR, type << 8 | index, PICK(&g->random, languages),
+          PICK(&g->random, lengths));
 }
 
 static void load_or_read(struct generator *g, uint16_t pair) {
@@ -206,7 +186,7 @@ static void load_or_read(struct generator *g, uint16_t pair) {
     uint32_t from, size = CONFIGURATION_BYTES;
     if (where == PLACE_MEMORY) {
         from = memory_start(g);
-        size = chance(g, 70) ? (from / PAGE + 1) * PAGE : fitted_memory(g);
+        size = chance(&g->random, 70) ? (from / PAGE + 1) * PAGE : fitted_memory(g);
     } else {
         from = configuration_start(g);
     }
@@ -217,7 +197,7 @@ static void load_or_read(struct generator *g, uint16_t pair) {
 }
 
 static void load(struct generator *g) {
-    uint32_t what = below(g, 100);
+    uint32_t what = below(&g->random, 100);
     if (what < 20)
         load_descriptor(g);
     else if (what < 25)
@@ -229,8 +209,8 @@ static void load(struct generator *g) {
 static void bogus_read(struct generator *g) {
     uint32_t room = (uint32_t)g->bench.options.reply;
     const uint32_t counts[] = {0, 1, 2, 64, room - 1, room, room + 1, 0xFFFF};
-    uint32_t fields = draw(g);
-    setup(g, BOGUS_READ, fields & 0xFFFF, fields >> 16, PICK(g, counts));
+    uint32_t fields = draw(&g->random);
+    setup(g, BOGUS_READ, fields & 0xFFFF, fields >> 16, PICK(&g->random, counts));
 }
 
 /* A request of the table; where its fields are not fixed they are drawn around their limits. */
@@ -242,10 +222,10 @@ static void request(struct generator *g) {
                                      LOAD_CONFIG_DATA,  LOAD_CONFIG_DATA,  LOAD_CONFIG_DATA,
                                      LOAD_CONFIG_DATA,  READ_CONFIG_DATA,  READ_CONFIG_DATA,
                                      SOFT_RESET,        BOGUS_READ};
-    uint16_t pair = PICK(g, pairs);
+    uint16_t pair = PICK(&g->random, pairs);
     switch (pair) {
     case SET_CONFIGURATION:
-        setup(g, pair, chance(g, 80) ? 2 : 0, 0, 0);
+        setup(g, pair, chance(&g->random, 80) ? 2 : 0, 0, 0);
         break;
     case GET_DESCRIPTOR:
         get_descriptor(g);
@@ -277,8 +257,8 @@ static void request(struct generator *g) {
 /* A field that only its high byte or a single step makes wrong. */
 static void bend_field(struct generator *g) {
     static const uint16_t steps[] = {1, 2, 0xFFFF, 0x0080, 0x0100, 0x0200, 0x8000};
-    uint8_t *field = g->record.payload + 2 + 2 * below(g, 3);
-    record_store(field, 2, record_load(field, 2) + PICK(g, steps));
+    uint8_t *field = g->record.payload + 2 + 2 * below(&g->random, 3);
+    record_store(field, 2, record_load(field, 2) + PICK(&g->random, steps));
 }
 
 /* A type or code one bit away, and pairs that source 003 knows and the paper leaves out. */
@@ -286,23 +266,24 @@ static void bend_pair(struct generator *g) {
     static const uint16_t pairs[] = {0x4004, 0x4005, 0xC006, 0xC003, 0x0005, 0x8106, 0x010B,
                                      0x0001, 0x8000, 0x6000, 0x6202, 0x2001, 0x4201, 0x0003};
     uint8_t *payload = g->record.payload;
-    uint32_t pair = chance(g, 60) ? ((uint32_t)payload[0] << 8 | payload[1]) ^ 1U << below(g, 16)
-                                  : PICK(g, pairs);
+    uint32_t pair = chance(&g->random, 60)
+                        ? ((uint32_t)payload[0] << 8 | payload[1]) ^ 1U << below(&g->random, 16)
+                        : PICK(&g->random, pairs);
     payload[0] = (uint8_t)(pair >> 8);
     payload[1] = (uint8_t)pair;
 }
 
 static void bend_data(struct generator *g) {
     uint32_t count = (uint32_t)g->record.length - SETUP_LENGTH;
-    if (count > 0 && chance(g, 50))
+    if (count > 0 && chance(&g->random, 50))
         host_data(g, count - 1);
     else
-        host_data(g, count + 1 + below(g, 8));
+        host_data(g, count + 1 + below(&g->random, 8));
 }
 
 static void control(struct generator *g) {
     request(g);
-    uint32_t bend = below(g, 100);
+    uint32_t bend = below(&g->random, 100);
     if (bend < 14)
         bend_data(g);
     else if (bend < 28)
@@ -310,7 +291,7 @@ static void control(struct generator *g) {
     else if (bend < 36)
         bend_pair(g);
     else if (bend < 40)
-        g->record.length = (uint16_t)below(g, SETUP_LENGTH);
+        g->record.length = (uint16_t)below(&g->random, SETUP_LENGTH);
 }
 
 /* Asked of the bridge, by a read that changes nothing. */
@@ -337,11 +318,12 @@ static void good_packet(struct generator *g) {
     uint8_t *block = packet + PACKET_BLOCK;
     start(g, RECORD_PACKET, PACKET_LENGTH);
     memcpy(packet, front, sizeof front);
-    record_store(packet + PACKET_TAG, 4, draw(g));
-    record_store(packet + PACKET_TRANSFER_LENGTH, 4, chance(g, 90) ? PICK(g, lengths) : draw(g));
-    packet[PACKET_FLAGS] = chance(g, 50) ? FLAGS_IN : 0;
+    record_store(packet + PACKET_TAG, 4, draw(&g->random));
+    record_store(packet + PACKET_TRANSFER_LENGTH, 4,
+                 chance(&g->random, 90) ? PICK(&g->random, lengths) : draw(&g->random));
+    packet[PACKET_FLAGS] = chance(&g->random, 50) ? FLAGS_IN : 0;
     packet[PACKET_BLOCK_LENGTH] = 16;
-    fill(g, block, 13);
+    fill(&g->random, block, 13);
     block[0] = command_signature(g);
     block[1] = 0x24;
     if (block[2] & 0x01)
@@ -353,13 +335,13 @@ static void bend_recognition(struct generator *g) {
     static const uint32_t lengths[] = {0, 7, 9, 0x0108, 0x08000000};
     uint8_t *packet = g->record.payload;
     uint8_t *block = packet + PACKET_BLOCK;
-    uint32_t rule = below(g, 7);
-    uint32_t bit = below(g, 24);
+    uint32_t rule = below(&g->random, 7);
+    uint32_t bit = below(&g->random, 24);
     if (rule >= 4)
         make_register_read(g);
     switch (rule) {
     case 0:
-        packet[PACKET_BLOCK_LENGTH] = (uint8_t)(1 + below(g, 15));
+        packet[PACKET_BLOCK_LENGTH] = (uint8_t)(1 + below(&g->random, 15));
         break;
     case 1:
         block[0] ^= (uint8_t)(1U << bit % 8);
@@ -371,10 +353,10 @@ static void bend_recognition(struct generator *g) {
         block[13 + bit / 8] = (uint8_t)(1U << bit % 8);
         break;
     case 4:
-        block[2] |= chance(g, 50) ? 0x08 : 0x10;
+        block[2] |= chance(&g->random, 50) ? 0x08 : 0x10;
         break;
     case 5:
-        record_store(packet + PACKET_TRANSFER_LENGTH, 4, PICK(g, lengths));
+        record_store(packet + PACKET_TRANSFER_LENGTH, 4, PICK(&g->random, lengths));
         break;
     default:
         packet[PACKET_FLAGS] = 0;
@@ -386,26 +368,26 @@ static void bend_meaning(struct generator *g) {
     static const uint8_t luns[] = {0x01, 0x0F, 0x10, 0x10, 0x80};
     static const uint8_t block_lengths[] = {0, 17, 31, 0x80, 0xFF};
     uint8_t *packet = g->record.payload;
-    switch (below(g, 3)) {
+    switch (below(&g->random, 3)) {
     case 0:
-        packet[PACKET_FLAGS] = PICK(g, flags);
+        packet[PACKET_FLAGS] = PICK(&g->random, flags);
         break;
     case 1:
-        packet[PACKET_LUN] = PICK(g, luns);
+        packet[PACKET_LUN] = PICK(&g->random, luns);
         break;
     default:
-        packet[PACKET_BLOCK_LENGTH] = PICK(g, block_lengths);
+        packet[PACKET_BLOCK_LENGTH] = PICK(&g->random, block_lengths);
     }
 }
 
 static void bend_validity(struct generator *g) {
     static const uint16_t lengths[] = {0, 1, 3, 4, 13, 15, 30, 30, 32, 32, 64, 512, 520};
-    if (chance(g, 40)) {
-        uint32_t bit = below(g, 32);
+    if (chance(&g->random, 40)) {
+        uint32_t bit = below(&g->random, 32);
         g->record.payload[bit / 8] ^= (uint8_t)(1U << bit % 8);
         return;
     }
-    uint16_t length = PICK(g, lengths);
+    uint16_t length = PICK(&g->random, lengths);
     if (length > PACKET_LENGTH)
         memset(g->record.payload + PACKET_LENGTH, 0, (size_t)length - PACKET_LENGTH);
     g->record.length = length;
@@ -413,7 +395,7 @@ static void bend_validity(struct generator *g) {
 
 static void packet(struct generator *g) {
     good_packet(g);
-    uint32_t bend = below(g, 100);
+    uint32_t bend = below(&g->random, 100);
     if (bend < 25)
         bend_recognition(g);
     else if (bend < 35)
@@ -425,12 +407,14 @@ static void packet(struct generator *g) {
 static void report(struct generator *g) {
     static const uint8_t directions[] = {0, 1, 2, 0, 1, 2, 3, 0x80, 0xFF};
     static const uint8_t failures[] = {0, 1, 0, 1, 2, 0xFF};
-    uint32_t amounts[] = {0, 0, 1, g->length - 1, g->length, g->length, g->length + 1, draw(g)};
+    uint32_t amounts[] = {
+        0, 0, 1, g->length - 1, g->length, g->length, g->length + 1, draw(&g->random)};
     uint8_t *payload = g->record.payload;
     start(g, RECORD_REPORT, RECORD_REPORT_LENGTH);
-    payload[0] = chance(g, 60) ? g->direction : PICK(g, directions);
-    payload[1] = PICK(g, failures);
-    record_store(payload + 2, 4, payload[0] == 0 && chance(g, 80) ? 0 : PICK(g, amounts));
+    payload[0] = chance(&g->random, 60) ? g->direction : PICK(&g->random, directions);
+    payload[1] = PICK(&g->random, failures);
+    record_store(payload + 2, 4,
+                 payload[0] == 0 && chance(&g->random, 80) ? 0 : PICK(&g->random, amounts));
 }
 
 /* The next burst of a packet that is cut anywhere, or its end mark, at times too early; whatever
@@ -443,19 +427,19 @@ static void fragment(struct generator *g) {
         g->cutting = true;
     }
     uint32_t left = (uint32_t)g->cut.length - g->handed;
-    if (chance(g, left == 0 ? 80 : 4)) {
+    if (chance(&g->random, left == 0 ? 80 : 4)) {
         start(g, RECORD_END_MARK, 0);
         g->cutting = false;
         return;
     }
-    uint32_t length = chance(g, 40) ? left : below(g, left + 1);
+    uint32_t length = chance(&g->random, 40) ? left : below(&g->random, left + 1);
     start(g, RECORD_BURST, (uint16_t)length);
     memcpy(g->record.payload, g->cut.payload + g->handed, length);
     g->handed = (uint16_t)(g->handed + length);
 }
 
 static void anything(struct generator *g) {
-    uint32_t kind = below(g, 100);
+    uint32_t kind = below(&g->random, 100);
     if (kind < 1)
         start(g, RECORD_BUS_RESET, 0);
     else if (kind < 68)
@@ -476,7 +460,7 @@ static void next_step(struct generator *g) {
         halted = pipe_index(g);
     switch (thrandue_phase(g->bench.image)) {
     case THRANDUE_AWAITING:
-        if (halts != 0 && chance(g, 50))
+        if (halts != 0 && chance(&g->random, 50))
             setup(g, CLEAR_FEATURE, 0, halted, 0);
         else
             packet(g);
@@ -485,7 +469,7 @@ static void next_step(struct generator *g) {
         report(g);
         break;
     case THRANDUE_STATUS_WAITING:
-        if (halts != 0 && chance(g, 50))
+        if (halts != 0 && chance(&g->random, 50))
             setup(g, CLEAR_FEATURE, 0, halted, 0);
         else
             start(g, RECORD_STATUS, 0);
@@ -503,11 +487,11 @@ static void compose(struct generator *g) {
     static const uint8_t percent_of_next_steps[] = {40, 10, 15, 4, 4};
     bool configured = thrandue_configuration(g->bench.image) != 0;
     uint8_t phase = thrandue_phase(g->bench.image);
-    if (g->bench.options.bursts && chance(g, g->cutting ? 60 : 15))
+    if (g->bench.options.bursts && chance(&g->random, g->cutting ? 60 : 15))
         fragment(g);
-    else if (!configured && chance(g, 25))
+    else if (!configured && chance(&g->random, 25))
         setup(g, SET_CONFIGURATION, 2, 0, 0);
-    else if (configured && chance(g, percent_of_next_steps[phase]))
+    else if (configured && chance(&g->random, percent_of_next_steps[phase]))
         next_step(g);
     else
         anything(g);
@@ -532,17 +516,18 @@ static void tear(struct generator *g) {
                                    {1, 1},   {520, 1},        {1, 5},      {13, 5},
                                    {0, 4},   {5, 4},          {7, 4},      {6, 4},
                                    {8, 2},   {31, 3},         {520, 3},    {1, 2}};
-    const uint16_t *header = PICK(g, headers);
+    const uint16_t *header = PICK(&g->random, headers);
     uint8_t bytes[RECORD_HEADER + TORN_PAYLOAD_MOST] = {0};
     record_store(bytes, 2, header[0]);
     record_store(bytes + 2, 2, header[1]);
     uint32_t payload = header[0] < TORN_PAYLOAD_MOST ? header[0] : TORN_PAYLOAD_MOST;
-    size_t count = chance(g, 25) ? 1 + below(g, 3) : RECORD_HEADER + below(g, payload);
+    size_t count = chance(&g->random, 25) ? 1 + below(&g->random, 3)
+                                          : RECORD_HEADER + below(&g->random, payload);
     fwrite(bytes, 1, count, stdout);
 }
 
 static int generate(uint64_t seed, uint64_t events, bool torn, struct bench_options options) {
-    struct generator g = {.state = seed};
+    struct generator g = {.random = {seed}};
     bench_open(&g.bench, options);
     for (uint64_t i = 0; i < events && !ferror(stdout); i++) {
         compose(&g);

@@ -1,6 +1,9 @@
 /* The second bridge: the paper in plain C, freestanding, refusing in the paper's order. */
 #include "second_bridge.h"
 
+#include "second_bytes.h"
+#include "second_store.h"
+
 #include <string.h>
 
 enum {
@@ -144,22 +147,6 @@ struct request {
     uint8_t *reply;
     size_t reply_len;
 };
-
-static uint16_t load16(const uint8_t *from) {
-    return (uint16_t)(from[0] | from[1] << 8);
-}
-
-static uint32_t load32(const uint8_t *from) {
-    return (uint32_t)from[0] | (uint32_t)from[1] << 8 | (uint32_t)from[2] << 16 |
-           (uint32_t)from[3] << 24;
-}
-
-static void store32(uint8_t *to, uint32_t number) {
-    to[0] = (uint8_t)number;
-    to[1] = (uint8_t)(number >> 8);
-    to[2] = (uint8_t)(number >> 16);
-    to[3] = (uint8_t)(number >> 24);
-}
 
 static uint32_t handed_out(uint32_t count) {
     return SECOND_DONE | count << 8;
@@ -622,6 +609,16 @@ uint32_t second_power_on(struct second_bridge *bridge, bool bus_powered) {
     bridge->bus_powered = bus_powered;
     bridge->bytes[SIGNATURE_ADDRESS] = SIGNATURE_AT_POWER_ON;
     return SECOND_DONE;
+}
+
+uint32_t second_power_on_with_store(struct second_bridge *bridge, bool bus_powered,
+                                    const uint8_t *store, size_t store_len) {
+    struct second_settings settings;
+    uint8_t answer = second_read_store(store, store_len, &settings);
+    second_power_on(bridge, bus_powered);
+    if (answer == SECOND_DONE)
+        memcpy(bridge->bytes + FIRST_WRITABLE, settings.bytes, sizeof settings.bytes);
+    return answer;
 }
 
 uint32_t second_bus_reset(struct second_bridge *bridge) {

@@ -26,7 +26,12 @@ enum {
     SECOND_WRONG_PHASE = 16,
     SECOND_REPORT_MALFORMED = 17,
     SECOND_NO_DESCRIPTOR = 18,
-    SECOND_DESCRIPTOR_CUT = 19
+    SECOND_DESCRIPTOR_CUT = 19,
+    SECOND_RECORD_CUT = 20,
+    SECOND_UNKNOWN_KIND = 21,
+    SECOND_PAYLOAD_LENGTH = 22,
+    SECOND_NO_RECORD = 23,
+    SECOND_RECORD_ROOM = 29
 };
 
 /* What second_phase hands out. */
@@ -74,6 +79,8 @@ struct second_bridge {
  * part of the lent memory, and bits 32 to 47 are then its start there. A slice of length 0 may be
  * NULL. */
 uint32_t second_power_on(struct second_bridge *bridge, bool bus_powered);
+uint32_t second_power_on_with_store(struct second_bridge *bridge, bool bus_powered,
+                                    const uint8_t *store, size_t store_len);
 uint32_t second_bus_reset(struct second_bridge *bridge);
 uint64_t second_control(struct second_bridge *bridge, const uint8_t *setup, size_t setup_len,
                         const uint8_t *host, size_t host_len, uint8_t *memory, size_t memory_len,

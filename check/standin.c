@@ -25,6 +25,13 @@ uint32_t thrandue_power_on(thrandue_image *image, bool bus_powered) {
     return store(image, &bridge, second_power_on(&bridge, bus_powered));
 }
 
+uint32_t thrandue_power_on_with_store(thrandue_image *image, bool bus_powered,
+                                      const uint8_t *records, size_t records_len) {
+    struct second_bridge bridge = load(image);
+    return store(image, &bridge,
+                 second_power_on_with_store(&bridge, bus_powered, records, records_len));
+}
+
 uint32_t thrandue_bus_reset(thrandue_image *image) {
     struct second_bridge bridge = load(image);
     return store(image, &bridge, second_bus_reset(&bridge));

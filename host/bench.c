@@ -1,14 +1,12 @@
 /* The bench: a bridge from power-on, with the memory and the rooms that are lent to it. */
 #include "bench.h"
 
-#include "command.h"
 #include "layout.h"
 
 #include <stdlib.h>
 #include <string.h>
 
 enum {
-    SIZE_MOST = 1000000,
     ERASED = 0xFF
 };
 
@@ -34,13 +32,6 @@ struct bench_arguments bench_arguments(char **argv, const char *help) {
     };
 }
 
-static size_t size_after(struct bench_arguments *arguments, const char *option) {
-    uint64_t number;
-    if (*arguments->rest == NULL || !command_number(*arguments->rest++, SIZE_MOST, &number))
-        exit(command_misused("%s takes a number from 0 to %d", option, SIZE_MOST));
-    return (size_t)number;
-}
-
 const char *bench_argument(struct bench_arguments *arguments) {
     const char *argument;
     while ((argument = *arguments->rest) != NULL) {
@@ -50,36 +41,44 @@ const char *bench_argument(struct bench_arguments *arguments) {
         size_t *size = named_size(&arguments->options, argument);
         bool *fact = named_fact(&arguments->options, argument);
         if (size != NULL)
-            *size = size_after(arguments, argument);
+            *size = command_size_after(&arguments->rest, argument);
         else if (fact != NULL)
             *fact = true;
+        else if (strcmp(argument, "--store") == 0)
+            arguments->options.store = command_file_after(&arguments->rest, argument);
         else
             return argument;
     }
     return NULL;
 }
 
-/* Exactly as large as asked, so that the address sanitizer sees a step beyond it. */
 static void *room(size_t bytes) {
-    if (bytes == 0)
-        return NULL;
-    void *lent = malloc(bytes);
-    if (lent == NULL) {
-        command_say("no room for %zu bytes", bytes);
-        exit(EXIT_MISUSED);
-    }
-    memset(lent, ERASED, bytes);
+    void *lent = command_room(bytes);
+    if (bytes != 0)
+        memset(lent, ERASED, bytes);
     return lent;
 }
 
-void bench_open(struct bench *bench, struct bench_options options) {
+static uint32_t power_on(struct bench *bench) {
+    struct command_file *store = &bench->store;
+    if (bench->options.store == NULL) {
+        *store = (struct command_file){0};
+        return thrandue_power_on(bench->image, bench->options.bus_powered);
+    }
+    if (!command_read(bench->options.store, store))
+        exit(EXIT_MISUSED);
+    return thrandue_power_on_with_store(bench->image, bench->options.bus_powered, store->bytes,
+                                        store->length);
+}
+
+uint8_t bench_open(struct bench *bench, struct bench_options options) {
     bench->options = options;
     bench->image = room(sizeof *bench->image);
     bench->memory = room(options.memory);
     bench->reply = room(options.reply);
     bench->operations = room(options.operations * sizeof *bench->operations);
     bench->payload = room(RECORD_PAYLOAD_MOST);
-    thrandue_power_on(bench->image, options.bus_powered);
+    return thrandue_answer(power_on(bench));
 }
 
 void bench_close(struct bench *bench) {
@@ -88,6 +87,7 @@ void bench_close(struct bench *bench) {
     free(bench->reply);
     free(bench->operations);
     free(bench->payload);
+    free(bench->store.bytes);
 }
 
 static uint64_t control_event(struct bench *bench, const uint8_t *payload, size_t length) {

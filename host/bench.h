@@ -2,6 +2,7 @@
 #ifndef BENCH_H
 #define BENCH_H
 
+#include "command.h"
 #include "record.h"
 #include "thrandue.h"
 
@@ -9,13 +10,14 @@
 #include <stddef.h>
 #include <stdint.h>
 
-/* The sizes of what is lent, what is fixed at power-on, and whether a session has packets in
- * bursts. */
+/* The sizes of what is lent, what is fixed at power-on, the file of the settings at power-on, NULL
+ * for none, and whether a session has packets in bursts. */
 struct bench_options {
     size_t memory;
     size_t reply;
     size_t operations;
     bool bus_powered;
+    const char *store;
     bool bursts;
 };
 
@@ -26,6 +28,7 @@ struct bench {
     uint8_t *reply;
     uint16_t *operations;
     uint8_t *payload;
+    struct command_file store;
 };
 
 /* A command line with options for another bench than document 01's. */
@@ -40,17 +43,19 @@ struct bench_arguments {
     "  --reply N       bytes of reply room (4096)\n"                                               \
     "  --operations N  room for operations (11)\n"                                                 \
     "  --bus-powered   the dock is bus powered\n"                                                  \
+    "  --store FILE    the dock is powered on with the settings of this store\n"                   \
     "  --bursts        records of kind 6 are bursts of a packet, of kind 7 end marks\n"            \
     "  --help          this text\n"
 
 struct bench_arguments bench_arguments(char **argv, const char *help);
 
 /* The next argument that is none of these options, NULL at the end; the options are those given up
- * to it. Ends the program after --help and for an option that is not followed by its number. */
+ * to it. Ends the program after --help and for an option that is not followed by what it takes. */
 const char *bench_argument(struct bench_arguments *arguments);
 
-/* Ends the program where there is no room. */
-void bench_open(struct bench *bench, struct bench_options options);
+/* The answer of the power-on: of the store, where there is one. Ends the program where there is no
+ * room, or the store cannot be read. */
+uint8_t bench_open(struct bench *bench, struct bench_options options);
 void bench_close(struct bench *bench);
 
 /* Where an event's payload is lent: a record of this length at the end of its room, so that a read

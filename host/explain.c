@@ -52,6 +52,11 @@ static const struct word answers[] = {
     {17, "report malformed"},
     {18, "no such descriptor"},
     {19, "descriptor runs past the memory"},
+    {20, "record cut"},
+    {21, "unknown kind of record"},
+    {22, "payload length wrong for its kind"},
+    {23, "no record"},
+    {29, "record room too short"},
     {0},
 };
 
@@ -359,17 +364,32 @@ static void show_held(unsigned held) {
         printf(", %u byte%s held", held, held == 1 ? "" : "s");
 }
 
-void explain_event(const struct bench *bench, const struct record *record, uint64_t outcome) {
-    unsigned answer = thrandue_answer(outcome);
+static void show_answer(unsigned answer) {
     const char *meaning = called(answers, answer);
+    printf(" | %u %s", answer, meaning == NULL ? "not an answer of the paper" : meaning);
+}
+
+static void show_state(const thrandue_image *image) {
+    printf(" | configuration %u", (unsigned)thrandue_configuration(image));
+    show_word(phases, "phase", 2, thrandue_phase(image));
+    show_word(halts, "halts", 2, thrandue_halts(image));
+    show_held(thrandue_held(image));
+    putchar('\n');
+}
+
+void explain_store(const struct bench *bench, uint8_t answer) {
+    size_t length = bench->store.length;
+    printf("    store, %zu byte%s", length, length == 1 ? "" : "s");
+    show_answer(answer);
+    show_state(bench->image);
+}
+
+void explain_event(const struct bench *bench, const struct record *record, uint64_t outcome) {
+    uint8_t answer = thrandue_answer(outcome);
     fputs("    ", stdout);
     explain_arrival(record);
-    printf(" | %u %s", answer, meaning == NULL ? "not an answer of the paper" : meaning);
+    show_answer(answer);
     if (answer == THRANDUE_DONE)
         explain_handed_out(bench, record, outcome);
-    printf(" | configuration %u", (unsigned)thrandue_configuration(bench->image));
-    show_word(phases, "phase", 2, thrandue_phase(bench->image));
-    show_word(halts, "halts", 2, thrandue_halts(bench->image));
-    show_held(thrandue_held(bench->image));
-    putchar('\n');
+    show_state(bench->image);
 }

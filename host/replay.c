@@ -12,7 +12,8 @@ static const char help[] =
     "written\n"
     "by hand in second, and prints, for each event, the answer number and then the reply's bytes "
     "or\n"
-    "the operations. Without FILE, or for -, it reads standard input.\n"
+    "the operations; with --store the number of the store first, on a line of its own. Without\n"
+    "FILE, or for -, it reads standard input.\n"
     "  --explain       under each answer a line that says in words what came, what the bridge\n"
     "                  answered and how it then stands\n" BENCH_OPTIONS_HELP
     "Status 0: every event is answered; 1: the session is torn, and the last line says torn;\n"
@@ -41,9 +42,17 @@ static void answer(void *context, const struct record *record) {
         explain_event(bench, record, outcome);
 }
 
+static void answer_store(const struct replay *replay, uint8_t number) {
+    printf("%u\n", (unsigned)number);
+    if (replay->explains)
+        explain_store(&replay->bench, number);
+}
+
 static int run(const char *name, struct bench_options options, bool explains) {
     struct replay replay = {.explains = explains};
-    bench_open(&replay.bench, options);
+    uint8_t number = bench_open(&replay.bench, options);
+    if (options.store != NULL)
+        answer_store(&replay, number);
     int status = record_each(name, options.bursts, answer, &replay);
     if (status == EXIT_REFUSED)
         puts("torn");

@@ -233,12 +233,6 @@ static const char *read_number(const struct field *field, const char *text, uint
     return NULL;
 }
 
-static int read_pair(const char *text) {
-    int high = command_digit(text[0]);
-    int low = high < 0 ? -1 : command_digit(text[1]);
-    return low < 0 ? -1 : high * 16 + low;
-}
-
 static const char *append(struct record *record, int byte, uint64_t times) {
     if (byte < 0)
         return "bytes are pairs of hexadecimal digits, or one pair, * and how many";
@@ -252,10 +246,10 @@ static const char *append(struct record *record, int byte, uint64_t times) {
 static const char *read_bytes(const char *text, struct record *record) {
     uint64_t times;
     if (strlen(text) > 3 && text[2] == '*' && command_number(text + 3, UINT16_MAX, &times))
-        return append(record, read_pair(text), times);
+        return append(record, command_pair(text), times);
     const char *wrong = *text == '\0' ? "without bytes" : NULL;
     for (; wrong == NULL && *text != '\0'; text += 2)
-        wrong = append(record, read_pair(text), 1);
+        wrong = append(record, command_pair(text), 1);
     return wrong;
 }
 

@@ -12,9 +12,9 @@ extern "C" {
 #endif
 
 /* The state of a bridge, as an image that the caller keeps and hands over by its address.
- * thrandue_power_on makes it, and only the calls below write it. Any bytes stand for some state,
- * and two images of one state may differ: what a finished command held stays in them until the
- * next, and so do the bytes of a packet that was judged or dropped. */
+ * A power-on makes it, and only the calls below write it. Any bytes stand for some state, and two
+ * images of one state may differ: what a finished command held stays in them until the next, and so
+ * do the bytes of a packet that was judged or dropped. */
 typedef struct thrandue_image {
     uint8_t bytes[62];
 } thrandue_image;
@@ -69,7 +69,10 @@ static inline const uint8_t *thrandue_reply(uint64_t outcome, const uint8_t *mem
  * Whatever the answer was, a pipe that thrandue_halts names gets STALL until it is cleared. In a
  * stop, phase STOPPED or STOPPED_RESET, both pipes get it, also one that is cleared already: the
  * stop is over when both are. These are the pipes whose events are answered HALTED, so a port may
- * go by either. */
+ * go by either.
+ *
+ * No event gets the last five: CUT_RECORD to NO_RECORD come from thrandue_power_on_with_store
+ * alone, and RECORD_ROOM from the service library alone (service.h, which gives the four too). */
 enum {
     THRANDUE_DONE = 0,
     THRANDUE_SETUP_LENGTH = 1,
@@ -89,12 +92,32 @@ enum {
     THRANDUE_WRONG_PHASE = 16,
     THRANDUE_MALFORMED = 17,
     THRANDUE_NO_DESCRIPTOR = 18,
-    THRANDUE_PAST_MEMORY = 19
+    THRANDUE_PAST_MEMORY = 19,
+    THRANDUE_CUT_RECORD = 20,
+    THRANDUE_UNKNOWN_KIND = 21,
+    THRANDUE_PAYLOAD_LENGTH = 22,
+    THRANDUE_NO_RECORD = 23,
+    THRANDUE_RECORD_ROOM = 29
 };
 
 /* The image becomes that of a bridge at power-on, whatever it held, in a dock that is bus powered
  * or not. Answers DONE. */
 uint32_t thrandue_power_on(thrandue_image *image, bool bus_powered);
+
+/* As thrandue_power_on, with the settings of a store, and this is the only way by which settings
+ * reach the bridge. A store is a run of records, each its payload's length (2 bytes, low first),
+ * its kind (2, low first) and its payload, and the last one is the settings: where the answer is
+ * DONE, their fourteen bytes stand at configuration addresses 2 to F. Any other answer refuses the
+ * store, and the image is that of thrandue_power_on: a store that is refused leaves the defaults.
+ * It is judged record by record from the front, in this order within a record, and the first
+ * refusal found is answered, whatever follows:
+ *
+ *   CUT_RECORD        the store ends within the record
+ *   UNKNOWN_KIND      neither 0x0101 nor 0x0102
+ *   PAYLOAD_LENGTH    not the 14 bytes of 0x0101, or the 15 of 0x0102
+ *   NO_RECORD         the store is empty */
+uint32_t thrandue_power_on_with_store(thrandue_image *image, bool bus_powered, const uint8_t *store,
+                                      size_t store_len);
 
 /* Configuration 0, awaiting a command, no halts; the configuration bytes and the memory stay.
  * Answers DONE. */
