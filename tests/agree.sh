@@ -29,14 +29,18 @@ all_answered() {
         }' "$1"
 }
 
-# agree SESSION EVENTS ENDING 'PROGRAM..' [OPTION..]: the programs print the same bytes, which answer all that the session holds, and each ends with
-# the status that its ENDING, whole or torn, calls for; else what is wrong is shown. The bench has one status for both.
+# agree SESSION EVENTS ENDING 'PROGRAM..' [OPTION..]: the programs print the same bytes, which answer all that the session holds, behind a line for the
+# store where an option names one, and each ends with the status that its ENDING, whole or torn, calls for; else what is wrong is shown. The bench has
+# one status for both.
 agree() {
     session=$1
     holds=$2
     ending=$3
     programs=$4
     shift 4
+    for option; do
+        [ "$option" = --store ] && holds=$((holds + 1))
+    done
     first=
     for program in $programs; do
         printed=$out/$(basename "$program").printed

@@ -1,0 +1,29 @@
+# Sourced by the tests of C programs: how these are compiled, under the sanitizers too, how they end and what they print.
+# shellcheck shell=sh disable=SC2034
+CC=${CC:-cc}
+strict='-std=c11 -Wall -Wextra -Wpedantic -Werror -Ihost'
+sanitized='-O1 -g -fsanitize=address,undefined -fno-sanitize-recover=all'
+
+# ends STATUS MESSAGE COMMAND..: ends so, and says so on standard error.
+ends() {
+    status=$1
+    message=$2
+    shift 2
+    error=$("$@" 2>&1 >/dev/null </dev/null)
+    got=$?
+    case $error in
+    *"$message"*) [ $got -eq "$status" ] && return ;;
+    esac
+    echo "status $got: $error"
+    return 1
+}
+
+# prints COMMAND..: ends well and prints something.
+prints() {
+    text=$("$@") && [ -n "$text" ]
+}
+
+# in_hex FILE: its bytes on one line, as the programs print them.
+in_hex() {
+    od -An -v -tx1 "$1" | awk '{ for (i = 1; i <= NF; i++) line = line (line == "" ? "" : " ") toupper($i) } END { print line }'
+}
