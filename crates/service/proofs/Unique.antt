@@ -1,6 +1,5 @@
 -- No second outcome: each public function's own contract has one.
 use mathlib.Core.Path.{ap}
-use Prim.Native.Nat.{ℕ}
 use Rattle.rules.specs.OneOutcome.{OneOutcome}
 use Rattle.rules.proofs.Unique.{only}
 use Rattle.service.specs.Calls.{Called}

@@ -1,22 +1,21 @@
 -- What holds of stores: record by record, and of a run of them.
 use Prim.Native.Nat.{ℕ, zero, suc, _+_, _<_, _≤_}
 use mathlib.Core.Path.{_≡_, refl, sym, ap, _∙_}
-use mathlib.Core.Logic.{_⊎_, inl, inr, ⊎-elim}
+use mathlib.Core.Logic.{inl, inr}
 use mathlib.Core.Bool.{Bool, true, false, cond, and-false}
-use mathlib.Core.List.{List, [], _∷_, _++_, append-assoc, append-nil}
+use mathlib.Core.List.{List, [], _∷_, _++_, append-assoc}
 use native.Mathlib.Nat.{suc-ne-zero}
 use native.Mathlib.Omega.{arith}
-use lib.ListN.{length, take, drop, length-append, length-take, drop-of-length-le}
+use lib.ListN.{length, take, drop, length-append, drop-of-length-le}
 use lib.Seq.{take-all, take-length, take-at, getD-at, getD-take, length-take-le}
-use lib.Dec.{eqb, leb, ltb}
-use borrow.Author.Tests.{ltb-true, ltb-false, le-leb, lt-leb, eqb-true, eqb-false, eq-eqb, ne-eqb}
+use lib.Dec.{ltb}
+use borrow.Author.Tests.{lt-ltb, le-ltb, ltb-true, ltb-false, le-leb, lt-leb, eqb-true, eqb-false, eq-eqb, ne-eqb}
 use Rattle.rules.specs.Words.{byte, first}
 use Rattle.rules.specs.Step.{done}
-use Rattle.settings.specs.declared.Settings.{Settings}
 use Rattle.settings.specs.declared.Reading.{Reading}
-use Rattle.settings.specs.Store.{lengthIn, kindIn, payloadIn, recordOf, settingsFrom, lengthOf, settingsOf, knows, recordChecks, hidden, refused, recordRead, readsOn, reads, newest, payloadOf}
-use Rattle.settings.specs.Stores.{accepted, Good, LastCounts, RecordIsRead, WrittenIsRead, Unfamiliar, UnfamiliarIsRefused, CutIsRefused, OtherLengthIsRefused, NothingIsRefused, RefusedShowsNothing}
-use Rattle.settings.proofs.Records.{fine, recorded, cut, unknown, other-length, good as record-good, length-alone, record-alone, made-length, made-kind, made-payload, made-whole}
+use Rattle.settings.specs.Store.{lengthIn, payloadIn, recordOf, settingsFrom, lengthOf, settingsOf, knows, recordChecks, hidden, refused, recordRead, readsOn, reads, newest, payloadOf, written}
+use Rattle.settings.specs.Stores.{accepted, Good, LastCounts, RecordIsRead, WrittenIsRead, RoomIsExact, Unfamiliar, UnfamiliarIsRefused, CutIsRefused, OtherLengthIsRefused, NothingIsRefused, RefusedShowsNothing}
+use Rattle.settings.proofs.Records.{fine, recorded, cut, unknown, other-length, good as record-good, length-alone, record-alone, made-length, made-kind, made-whole}
 
 -- ---- one record, and what is behind it
 
@@ -38,7 +37,7 @@ onward k so-far [] some good = absurd (omega arith)
 onward k so-far (b ∷ s) some good =
     let next : suc (3 + lengthIn (b ∷ s)) ≡ 4 + lengthIn (b ∷ s) = omega arith in
     let r : Reading = recordRead k (b ∷ s) in
-    chosen (done (r .answer)) (readsOn k (3 + lengthIn (b ∷ s)) r s) r (eq-eqb (r .answer) 0 good)
+    chosen (done (r .answer)) (readsOn k (3 + lengthIn (b ∷ s)) r s) _ (eq-eqb (r .answer) 0 good)
     ∙ passes k (3 + lengthIn (b ∷ s)) r s
     ∙ ap (λ (n : ℕ). readsOn k 0 r (drop n (b ∷ s))) next
 
@@ -77,13 +76,13 @@ pub last-counts : LastCounts
 unfolding readsOn
 last-counts k front [] good some = absurd (omega arith)
 last-counts k front (b ∷ rest) (inl none) some = rw none refl
-last-counts k front (b ∷ rest) (inr good) some = fronts k 0 (refused 23) front (b ∷ rest) (omega arith) good
+last-counts k front (b ∷ rest) (inr good) some = fronts k 0 _ front (b ∷ rest) (omega arith) good
 
 -- a record that is refused, behind good ones
 refuses : (k number : ℕ) (front s : List ℕ) → Good k front → 0 < length s → recordRead k s ≡ refused (suc number) → reads k (front ++ s) ≡ refused (suc number)
 refuses k number front s good some says =
     let bad : recordRead k s .answer ≡ 0 → ⊥ = λ z. suc-ne-zero number (sym (ap (λ (r : Reading). r .answer) says) ∙ z) in
-    last-counts k front s good some ∙ ends k (refused 23) s some bad ∙ says
+    last-counts k front s good some ∙ ends k _ s some bad ∙ says
 
 pub nothing-is-refused : NothingIsRefused
 unfolding readsOn
@@ -91,15 +90,15 @@ nothing-is-refused k = refl
 
 -- ---- a made record
 
+strange : (k kind : ℕ) → Unfamiliar k kind → knows k kind ≡ false
+strange k kind (inl newer) = rw (lt-leb kind k newer) refl
+strange k kind (inr none) = rw (ne-eqb kind 0x0101 (none .0), ne-eqb kind 0x0102 (none .1), and-false) refl
+
 knows-plain : (k : ℕ) → 0x0101 ≤ k → knows k 0x0101 ≡ true
 knows-plain k h = rw (le-leb 0x0101 k h) refl
 
 knows-keeping : (k : ℕ) → 0x0102 ≤ k → knows k 0x0102 ≡ true
 knows-keeping k h = rw (le-leb 0x0102 k h) refl
-
-strange : (k kind : ℕ) → Unfamiliar k kind → knows k kind ≡ false
-strange k kind (inl newer) = rw (lt-leb kind k newer) refl
-strange k kind (inr none) = rw (ne-eqb kind 0x0101 (none .0), ne-eqb kind 0x0102 (none .1), and-false) refl
 
 -- one of a kind that the reader knows, as long as it should be, is all of its store
 made-read : (k kind : ℕ) (payload : List ℕ) → kind < 65536 → length payload < 65536 → knows k kind ≡ true → length payload ≡ lengthOf kind
@@ -185,7 +184,14 @@ written-is-read s h =
     let n : length (payloadOf s) ≡ 15 = length-append (s .bytes) (s .kept ∷ []) ∙ omega arith in
     (record-is-read newest (s .bytes) (s .kept) h .1 (omega arith), refl, made-length newest (payloadOf s) [] (omega arith) ∙ n, omega arith)
 
--- ---- a refusal
+pub room-is-exact : RoomIsExact
+room-is-exact s room h =
+    let n : length (written s) ≡ 19 = written-is-read s h .3 in (
+      λ less. rw (lt-ltb (length room) 19 (omega arith)) refl,
+      λ enough. rw (le-ltb (length room) 19 (omega arith)) refl,
+    )
+
+-- ---- a refusal hides what was read, and what it refuses
 
 hides-record : (k : ℕ) (s : List ℕ) → (recordRead k s .answer ≡ 0 → ⊥) → recordRead k s .settings ≡ hidden
 unfolding recordRead
@@ -211,4 +217,4 @@ hides k zero so-far (b ∷ s) before bad =
     go false e bad behind = hides-record k (b ∷ s) bad
 
 pub refused-shows-nothing : RefusedShowsNothing
-refused-shows-nothing k store bad = hides k 0 (refused 23) store (λ _. refl) bad
+refused-shows-nothing k store bad = hides k 0 _ store (λ _. refl) bad

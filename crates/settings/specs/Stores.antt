@@ -3,10 +3,10 @@ use Prim.Native.Nat.{ℕ, _+_, _<_, _≤_}
 use mathlib.Core.Path.{_≡_}
 use mathlib.Core.Logic.{_⊎_}
 use mathlib.Core.List.{List, [], _∷_, _++_}
-use lib.ListN.{length, take}
+use lib.ListN.{length, take, drop}
 use Rattle.settings.specs.declared.Settings.{Settings}
 use Rattle.settings.specs.declared.Reading.{Reading}
-use Rattle.settings.specs.Store.{lengthIn, kindIn, recordOf, settingsFrom, lengthOf, hidden, refused, reads, newest, recordLength, written}
+use Rattle.settings.specs.Store.{lengthIn, kindIn, recordOf, settingsFrom, lengthOf, hidden, refused, reads, newest, recordLength, written, leaves, writes}
 
 -- good settings: number 0
 abbrev pub accepted : Settings → Reading
@@ -34,6 +34,13 @@ WrittenIsRead =
     (s : Settings) → length (s .bytes) ≡ 14
     → (reads newest (written s) ≡ accepted s)
     × (kindIn (written s) ≡ newest) × (lengthIn (written s) ≡ lengthOf newest) × (length (written s) ≡ recordLength)
+
+-- "Writer: 29 less room than the record, nothing written"; else the record stands at the front of the room, and the rest is unchanged.
+abbrev pub RoomIsExact : Type 0
+RoomIsExact =
+    (s : Settings) (room : List ℕ) → length (s .bytes) ≡ 14
+    → (length room < length (written s) → writes s room ≡ leaves 29 room)
+    × (length (written s) ≤ length room → writes s room ≡ leaves 0 (written s ++ drop (length (written s)) room))
 
 -- a kind above the newest that a reader knows, or none of those that there are
 abbrev pub Unfamiliar : ℕ → ℕ → Type 0

@@ -1,54 +1,38 @@
 -- What calls leave stands for what the rules leave, from power-on to the last of them; and demand 3 is of the calls.
 use mathlib.Core.Path.{_≡_, refl, sym, ap, subst, _∙_}
-use mathlib.Core.Bool.{Bool, true, false, cond, not, _&&_}
+use mathlib.Core.Bool.{false}
 use mathlib.Core.List.{List, [], _∷_, _++_}
 use Prim.Native.Nat.{ℕ}
 use native.Mathlib.Omega.{arith}
 use lib.ListN.{length, drop, length-set, length-append, length-drop, take-append-drop}
-use Rattle.rules.specs.declared.Request.the-variants.{LoadConfigData}
-use Rattle.rules.specs.Words.{word, over}
-use Rattle.rules.specs.Held.{World, Start, holding}
+use Rattle.rules.specs.Words.{over}
+use Rattle.rules.specs.Held.{World, Start, holding, powerOnBytes, starting}
 use Rattle.rules.specs.Held.{powered as atPowerOn}
-use Rattle.rules.specs.Requests.{setupOf, requestOf, isA, inMemory}
-use Rattle.rules.specs.Step.{Event, BusReset, Control, Packet, Report, StatusRequest, Burst, EndMark, Outcome, answer, done, bytesDone, change, heldAfter, step, rules, after, reached}
+use Rattle.rules.specs.Step.{Event, BusReset, Control, Packet, Report, StatusRequest, Burst, EndMark, Outcome, change, heldAfter, step, rules, after, reached}
 use Rattle.rules.specs.Promise.{handedOut, roomWith}
 use Rattle.rules.specs.Demands.Boundary.{statusIn, Silent}
 use Rattle.rules.specs.Demands.Refusals.{judgesPacket}
 use Rattle.rules.specs.Demands.Bursts.{isBurst}
 use Rattle.rules.specs.Demands.Sizes.{AllOfBytes, Sized}
-use Rattle.rules.proofs.Rows.{over-length}
 use Rattle.rules.proofs.Demands.Boundary.{after-append, silence, resumption}
 use Rattle.rules.proofs.Bursts.{held-by-change}
+use Rattle.rules.proofs.Demands.Settings.{keeps-count, saved-is-restored}
 use Rattle.rules.proofs.Demands.Sizes.{Measured, sized, stepped, measured, measured-on}
-use Rattle.image.specs.Image.{bytesOf, powered, worldOf, dropped, put, added}
+use Rattle.settings.specs.declared.Reading.{Reading}
+use Rattle.settings.specs.declared.Settings.{Settings}
+use Rattle.settings.specs.Store.{settingsFrom, newest}
+use Rattle.settings.proofs.Stores.{written-is-read, refused-shows-nothing}
+use Rattle.image.specs.Image.{powered, worldOf, dropped, put, added}
 use Rattle.image.proofs.Holding.{added-length, burst-in-step}
 use Rattle.image.proofs.InStep.{powers-on, powered-length, in-step, dropped-in-step, put-length}
 use Rattle.thrandue.specs.Calls.{returns, holds}
-use Rattle.thrandue.specs.Sequences.{StandsForIt, Call, eventOf, eventsOf, Learnt, learnt, Parts, calling, partsAfter, learns, partsSince, standsFor, ruled, FromPowerOn, Hushed, AllHushed, CallsAreSilent, CallsResume}
+use Rattle.thrandue.specs.Sequences.{StandsForIt, Call, eventOf, eventsOf, Learnt, learnt, Parts, calling, partsAfter, learns, partsSince, standsFor, ruled, FromPowerOn, Hushed, AllHushed, CallsAreSilent, CallsResume, RefusedLeavesDefaults, StoredIsRestored}
 use Rattle.thrandue.proofs.Laws.{sixteen}
 
 -- ---- one call. The configuration bytes stay sixteen.
 
-written : (bytes : List ℕ) (e : Event) → length (bytesDone bytes e) ≡ length bytes
-written bytes BusReset = refl
-written bytes (Control setup host room) = go (isA LoadConfigData (requestOf (setupOf setup)) && not (inMemory (word 2 setup)))
-  where
-    go : (t : Bool) → length (cond t (over bytes (word 4 setup) host) bytes) ≡ length bytes
-    go true = over-length bytes (word 4 setup) host
-    go false = refl
-written bytes (Packet p room) = refl
-written bytes (Report direction failed amount) = refl
-written bytes (StatusRequest room) = refl
-written bytes (Burst burst) = refl
-written bytes (EndMark room) = refl
-
 sixteen-left : (image memory : List ℕ) (e : Event) → length image ≡ 62 → length (step (worldOf image memory) e .next .bytes) ≡ 16
-unfolding step
-sixteen-left image memory e h = go (done (answer (worldOf image memory) e)) ∙ sixteen image (omega arith)
-  where
-    go : (t : Bool) → length (cond t (bytesDone (bytesOf image) e) (bytesOf image)) ≡ length (bytesOf image)
-    go true = written (bytesOf image) e
-    go false = refl
+sixteen-left image memory e h = keeps-count (worldOf image memory) e ∙ sixteen image (omega arith)
 
 module _ (image memory : List ℕ) (h : length image ≡ 62) where
   abbrev w : World
@@ -193,3 +177,20 @@ calls-resume start memory history d since b kept all all' stop ends same =
     ∙ resumption start memory (eventsOf history) (eventOf d) (eventsOf since) (eventOf b) stop ends
     ∙ ap (λ (es : List Event). holding [] (after rules (reached rules start memory (eventsOf history)) es)) (sym same)
     ∙ ap (holding []) (sym (after-both start memory history kept all'))
+
+-- ---- a store at power-on
+
+pub refused-leaves-defaults : RefusedLeavesDefaults
+refused-leaves-defaults dock store bad = ap (λ (s : Settings). powered (starting dock (s .bytes))) (refused-shows-nothing newest store bad)
+
+pub stored-is-restored : StoredIsRestored
+stored-is-restored start memory cs kept b =
+    let run = since-on start memory cs b in
+    let w : World = standsFor (partsSince start memory cs) in
+    let n : length (drop 2 (w .bytes)) ≡ 14 = length-drop 2 (w .bytes) ∙ omega (arith, sixteen (partsSince start memory cs .0) (omega (arith, run .image))) in
+    let read = written-is-read (settingsFrom (drop 2 (w .bytes)) kept) n .0 in (
+      ap (λ (r : Reading). r .answer) read,
+      ap (λ (r : Reading). worldOf (powered (starting (w .bridge .dock) (r .settings .bytes))) memory .bytes) read
+          ∙ ap (λ (v : World). v .bytes) (powers-on (starting (w .bridge .dock) (drop 2 (w .bytes))) memory)
+          ∙ subst (λ (v : World). over powerOnBytes 2 (drop 2 (v .bytes)) ≡ v .bytes) (sym (run .stands-so)) (saved-is-restored start memory (eventsOf cs)),
+    )

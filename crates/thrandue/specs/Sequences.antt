@@ -3,16 +3,18 @@ use Prim.Native.Nat.{ℕ}
 use mathlib.Core.Path.{_≡_}
 use mathlib.Core.Bool.{true}
 use mathlib.Core.List.{List, [], _∷_, _++_}
-use lib.ListN.{length}
+use lib.ListN.{length, drop}
+use Rattle.rules.specs.declared.Dock.{Dock}
 use Rattle.rules.specs.declared.Stands.the-variants.{InRoom}
-use Rattle.rules.specs.Held.{World, Start, holding}
+use Rattle.rules.specs.Held.{World, Start, holding, byDefault}
 use Rattle.rules.specs.Held.{powered as atPowerOn}
 use Rattle.rules.specs.Step.{Event, BusReset, Control, Packet, Report, StatusRequest, Burst, EndMark, change, step, rules, after, reached}
 use Rattle.rules.specs.Promise.{Left, leaves}
 use Rattle.rules.specs.Demands.Boundary.{Stop, boundary, keptWrites, keptBoundary}
 use Rattle.rules.specs.Demands.Sizes.{AllOfBytes, Sized}
+use Rattle.settings.specs.Store.{settingsFrom, reads, newest, written}
 use Rattle.image.specs.Image.{worldOf, powered}
-use Rattle.thrandue.specs.Calls.{Called, returns, calls}
+use Rattle.thrandue.specs.Calls.{Called, returns, calls, poweredBy}
 
 -- ---- one call, on any image: what it leaves stands for the world that the rules leave, if the numbers of the change have 32 bits
 
@@ -26,7 +28,7 @@ StandsForIt =
 
 -- ---- calls, each on the image and the memory that the one before it left
 
--- a call after thrandue_power_on: the event that it tells of, and the room that is lent to it
+-- a call after power-on: the event that it tells of, and the room that is lent to it
 pub record Call : Type 0 where
   pub event : ℕ → Event
   pub room : List ℕ
@@ -61,7 +63,7 @@ abbrev pub learns : Parts → List Call → List Learnt
 learns s [] = []
 learns s (c ∷ cs) = learnt (calling s c .returned) (calling s c .room) ∷ learns (calling s c .image, calling s c .memory) cs
 
--- from thrandue_power_on on
+-- from power-on on, with a store or without
 abbrev pub partsSince : Start → List ℕ → List Call → Parts
 partsSince start memory cs = partsAfter (powered start, memory) cs
 
@@ -121,3 +123,19 @@ CallsResume =
     boundary rules last (eventOf b) ≡ true
     → eventsOf kept ≡ keptWrites rules stopped (eventsOf since) ++ keptBoundary rules last (eventOf b)
     → standsFor (partsSince start memory (history ++ (d ∷ since ++ b ∷ []))) ≡ holding [] (standsFor (partsSince start memory (history ++ kept))))
+
+-- ---- a store at power-on
+
+-- "a refused store leaves the defaults": the image is that of a power-on without a store, byte for byte
+abbrev pub RefusedLeavesDefaults : Type 0
+RefusedLeavesDefaults =
+    (dock : Dock) (store : List ℕ) → (reads newest store .answer ≡ 0 → ⊥) → poweredBy dock (reads newest store) .image ≡ powered (byDefault dock)
+
+-- Field service keeps settings and puts them back: after any calls, the fourteen bytes that a dock holds are written to a store, with any byte kept. A dock
+-- that is powered on with it answers 0 and holds the same sixteen.
+abbrev pub StoredIsRestored : Type 0
+StoredIsRestored =
+    (start : Start) (memory : List ℕ) (cs : List Call) (kept : ℕ) → AllOfBytes (eventsOf cs)
+    → (let w : World = standsFor (partsSince start memory cs) in
+    let c : Called = poweredBy (w .bridge .dock) (reads newest (written (settingsFrom (drop 2 (w .bytes)) kept))) in
+    (c .returned ≡ 0) × (worldOf (c .image) memory .bytes ≡ w .bytes))

@@ -45,7 +45,7 @@ unconfigured w (EndMark room) c g = rw c
 -- ---- exact writes
 
 -- the pair 40, 01 names LOAD_CONFIG_DATA
-is-load : (s : Setup) → s .kind ≡ 0x40 → s .code ≡ 0x01 → requestOf s ≡ Known LoadConfigData
+pub is-load : (s : Setup) → s .kind ≡ 0x40 → s .code ≡ 0x01 → requestOf s ≡ Known LoadConfigData
 unfolding requestOf
 is-load s k c = rw (k, c)
 

@@ -242,6 +242,6 @@ run w (e ∷ es) g h = run (step w e .next) es (stepped w g e (h .0)) (h .1)
 
 pub stays-well-formed : StaysWellFormed rules
 stays-well-formed start memory history s m h =
-    let sixteen = over-length powerOnBytes 2 (start .settings) in
-    let bytes = bytes-over powerOnBytes 2 (start .settings) (bytes-tested powerOnBytes refl) s in
+    let sixteen = over-length powerOnBytes _ (start .settings) in
+    let bytes = bytes-over powerOnBytes _ (start .settings) (bytes-tested powerOnBytes refl) s in
     run (powered start memory) history (record { sixteen = sixteen; bytes = bytes; memory = m; phase = refl; held = omega arith }) h

@@ -2,8 +2,8 @@
 use mathlib.Core.Path.{_≡_}
 use mathlib.Core.List.{List, [], _∷_}
 use Prim.Native.Nat.{ℕ}
-use lib.ListN.{length, take}
-use Rattle.rules.specs.Held.{World, Start, byDefault}
+use lib.ListN.{length, take, drop}
+use Rattle.rules.specs.Held.{World, Start, starting, byDefault}
 use Rattle.rules.specs.Step.{Event, BusReset, Control, Machine, reached}
 use Rattle.rules.specs.Demands.Requests.{wire, asking, ordering}
 use Rattle.rules.specs.Demands.Coherence.{Replies}
@@ -31,3 +31,10 @@ abbrev pub SettingsAreAsWritten : Machine → Type 0
 SettingsAreAsWritten m =
     (start : Start) (memory : List ℕ) → length (start .settings) ≡ 14
     → m .shows (reached m start memory []) ≡ m .shows (reached m (byDefault (start .dock)) memory (writing (start .settings)))
+
+-- Settings are kept and put back: a dock that is powered on anew with the fourteen bytes that it held, after any history, has all its sixteen again.
+abbrev pub SavedIsRestored : Machine → Type 0
+SavedIsRestored m =
+    (start : Start) (memory : List ℕ) (history : List Event)
+    → (let w : World = m .shows (reached m start memory history) in
+    m .shows (m .on (starting (w .bridge .dock) (drop 2 (w .bytes))) memory) .bytes ≡ w .bytes)

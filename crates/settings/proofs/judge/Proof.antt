@@ -4,7 +4,8 @@ use mathlib.Core.Bool.{true, false}
 use native.Mathlib.Omega.{arith}
 use borrow.Author.Needs.{needs}
 use Rattle.settings.specs.Store.{newest}
-use Rattle.settings.proofs.Records.{cut, unknown, other-length, good, numbered, knows-both}
+use Rattle.settings.proofs.Records.{cut, unknown, other-length, good, numbered}
+use Rattle.settings.proofs.Taking.{knows-both}
 use Rattle.settings.proofs.judge.Statement.{statement}
 use Rattle.settings.proofs.judge.Tie as tie
 

@@ -2,7 +2,7 @@
 use mathlib.Core.Path.{sym, _∙_}
 use borrow.Author.Needs.{needs}
 use Rattle.settings.specs.Store.{newest}
-use Rattle.settings.proofs.Records.{read-refused, read-good}
+use Rattle.settings.proofs.Taking.{read-refused, read-good}
 use Rattle.settings.proofs.read_record.Statement.{statement}
 use Rattle.settings.proofs.read_record.Tie as tie
 

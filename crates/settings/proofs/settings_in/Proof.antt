@@ -3,7 +3,7 @@ use mathlib.Core.Path.{refl, sym, _∙_}
 use native.Mathlib.Omega.{arith}
 use borrow.Author.Needs.{needs}
 use Rattle.settings.specs.Store.{newest}
-use Rattle.settings.proofs.Records.{eighteen, plain-there, nineteen, keeping-there}
+use Rattle.settings.proofs.Taking.{eighteen, plain-there, nineteen, keeping-there}
 use Rattle.settings.proofs.settings_in.Statement.{statement}
 use Rattle.settings.proofs.settings_in.Tie as tie
 
