@@ -39,18 +39,18 @@ lengthOf kind = cond (eqb kind 0x0101) 14 15
 abbrev pub settingsOf : ℕ → List ℕ → Settings
 settingsOf kind payload = settingsFrom (take 14 payload) (cond (eqb kind 0x0101) 0 (byte 14 payload))
 
--- a reader knows the kinds that there are, up to the newest of its edition
+-- The reader of an edition knows the kinds that there are up to its newest, k.
 abbrev pub knows : ℕ → ℕ → Bool
-knows newest kind = leb kind newest && (eqb kind 0x0101 || eqb kind 0x0102)
+knows k kind = leb kind k && (eqb kind 0x0101 || eqb kind 0x0102)
 
 -- ---- "Refusals: 20 cut record, 21 unknown kind, 22 payload length wrong for its kind, 23 no record; judged record by record from the front, in that
 -- order within a record, the first found is answered."
 
 -- of the record at the front of s
 abbrev pub recordChecks : ℕ → List ℕ → List Check
-recordChecks newest s =
+recordChecks k s =
     20 if ltb (length s) (4 + lengthIn s)
-    ∷ 21 if not (knows newest (kindIn s))
+    ∷ 21 if not (knows k (kindIn s))
     ∷ 22 if not (eqb (lengthIn s) (lengthOf (kindIn s)))
     ∷ []
 
@@ -62,20 +62,20 @@ abbrev pub refused : ℕ → Reading
 refused number = record { answer = number; settings = hidden }
 
 unfoldable pub recordRead : ℕ → List ℕ → Reading
-recordRead newest s =
-    let answer : ℕ = first (recordChecks newest s) in
+recordRead k s =
+    let answer : ℕ = first (recordChecks k s) in
     record { answer = answer; settings = cond (done answer) (settingsOf (kindIn s) (payloadIn s)) hidden }
 
 -- "The last record is the settings": what was read so far stands until the next record is read; of the record before, so much is still ahead
 unfoldable pub readsOn : ℕ → ℕ → Reading → List ℕ → Reading
-readsOn newest ahead so-far [] = so-far
-readsOn newest (suc ahead) so-far (b ∷ s) = readsOn newest ahead so-far s
-readsOn newest zero so-far (b ∷ s) =
-    let r : Reading = recordRead newest (b ∷ s) in
-    cond (done (r .answer)) (readsOn newest (3 + lengthIn (b ∷ s)) r s) r
+readsOn k ahead so-far [] = so-far
+readsOn k (suc ahead) so-far (b ∷ s) = readsOn k ahead so-far s
+readsOn k zero so-far (b ∷ s) =
+    let r : Reading = recordRead k (b ∷ s) in
+    cond (done (r .answer)) (readsOn k (3 + lengthIn (b ∷ s)) r s) r
 
 abbrev pub reads : ℕ → List ℕ → Reading
-reads newest store = readsOn newest 0 (refused 23) store
+reads k store = readsOn k 0 (refused 23) store
 
 -- ---- "The writer makes one record of the newest kind it knows." "Writer: 29 less room than the record, nothing written."
 

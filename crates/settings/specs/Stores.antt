@@ -6,7 +6,7 @@ use mathlib.Core.List.{List, [], _∷_, _++_}
 use lib.ListN.{length, take, drop}
 use Rattle.settings.specs.declared.Settings.{Settings}
 use Rattle.settings.specs.declared.Reading.{Reading}
-use Rattle.settings.specs.Store.{lengthIn, kindIn, recordOf, settingsFrom, lengthOf, hidden, refused, reads, newest, recordLength, written, leaves, writes}
+use Rattle.settings.specs.Store.{lengthIn, kindIn, recordOf, settingsFrom, lengthOf, refused, reads, newest, recordLength, written, leaves, writes}
 
 -- good settings: number 0
 abbrev pub accepted : Settings → Reading
@@ -69,6 +69,8 @@ OtherLengthIsRefused =
 abbrev pub NothingIsRefused : Type 0
 NothingIsRefused = (k : ℕ) → reads k [] ≡ refused 23
 
--- A refused store shows nothing: what comes with the refusal are the defaults, whatever stands in the store.
+-- A refused store shows nothing: what comes with the refusal are the defaults, "all are 0, but 0x04 is 0x24", whatever stands in the store.
 abbrev pub RefusedShowsNothing : Type 0
-RefusedShowsNothing = (k : ℕ) (store : List ℕ) → (reads k store .answer ≡ 0 → ⊥) → reads k store .settings ≡ hidden
+RefusedShowsNothing =
+    (k : ℕ) (store : List ℕ) → (reads k store .answer ≡ 0 → ⊥)
+    → reads k store .settings ≡ settingsFrom (0 ∷ 0 ∷ 0x24 ∷ 0 ∷ 0 ∷ 0 ∷ 0 ∷ 0 ∷ 0 ∷ 0 ∷ 0 ∷ 0 ∷ 0 ∷ 0 ∷ []) 0
