@@ -36,8 +36,9 @@ powers-on start memory =
 
 pub powered-length : (start : Start) → length (powered start) ≡ 62
 powered-length start =
-    let n : length (over powerOnBytes 2 (start .settings)) ≡ 16 = over-length powerOnBytes 2 (start .settings) in
-    omega (arith, length-append (over powerOnBytes 2 (start .settings) ++ replicate 13 0) (one (start .dock .«bus_powered») ∷ replicate 32 0), length-append (over powerOnBytes 2 (start .settings)) (replicate 13 0))
+    let bytes : List ℕ = over powerOnBytes 2 (start .settings) in
+    length-append (bytes ++ replicate 13 0) (one (start .dock .«bus_powered») ∷ replicate 32 0)
+    ∙ omega (arith, length-append bytes (replicate 13 0), over-length powerOnBytes 2 (start .settings))
 
 -- ---- a change, put into an image whose configuration bytes were written
 

@@ -14,12 +14,14 @@ use Rattle.settings.specs.Store.{payloadOf, written, leaves, writes}
 -- fourteen bytes and the kept one, put into a row of fifteen
 pub payload-made : (row bytes : List ℕ) (kept : ℕ) → length row ≡ 15 → length bytes ≡ 14 → set (over row 0 bytes) 14 kept ≡ bytes ++ kept ∷ []
 payload-made row bytes kept n h =
-    let last : drop (length bytes) row ≡ byte 14 row ∷ [] = rw h (drop-cons row 14 0 (omega arith) ∙ ap (λ (l : List ℕ). byte 14 row ∷ l) (drop-of-length-le row {i = 15} (omega arith))) in
+    let none : drop 15 row ≡ [] = drop-of-length-le row {i = 15} (omega arith) in
+    let last : drop (length bytes) row ≡ byte 14 row ∷ [] = rw h (drop-cons row 14 0 (omega arith) ∙ ap (λ (l : List ℕ). byte 14 row ∷ l) none) in
     ap (λ (l : List ℕ). set l 14 kept) (over-laid row bytes (omega arith) ∙ ap (λ (l : List ℕ). bytes ++ l) last)
     ∙ set-at bytes (byte 14 row) [] kept 14 h
 
 -- the head, the fourteen bytes behind it, and the kept one
-pub made : (s : Settings) {row : List ℕ} → length (s .bytes) ≡ 14 → row ≡ over (15 ∷ 0 ∷ 2 ∷ 1 ∷ replicate 15 0) 4 (s .bytes) → set row 18 (s .kept) ≡ written s
+pub made : (s : Settings) {row : List ℕ} → length (s .bytes) ≡ 14 → row ≡ over (15 ∷ 0 ∷ 2 ∷ 1 ∷ replicate 15 0) 4 (s .bytes)
+    → set row 18 (s .kept) ≡ written s
 unfolding over
 made s h e =
     let n : length (payloadOf s) ≡ 15 = length-append (s .bytes) (s .kept ∷ []) ∙ omega arith in

@@ -79,7 +79,8 @@ last-counts k front (b ∷ rest) (inl none) some = rw none refl
 last-counts k front (b ∷ rest) (inr good) some = fronts k 0 _ front (b ∷ rest) (omega arith) good
 
 -- a record that is refused, behind good ones
-refuses : (k number : ℕ) (front s : List ℕ) → Good k front → 0 < length s → recordRead k s ≡ refused (suc number) → reads k (front ++ s) ≡ refused (suc number)
+refuses : (k number : ℕ) (front s : List ℕ) → Good k front → 0 < length s → recordRead k s ≡ refused (suc number)
+    → reads k (front ++ s) ≡ refused (suc number)
 refuses k number front s good some says =
     let bad : recordRead k s .answer ≡ 0 → ⊥ = λ z. suc-ne-zero number (sym (ap (λ (r : Reading). r .answer) says) ∙ z) in
     last-counts k front s good some ∙ ends k _ s some bad ∙ says

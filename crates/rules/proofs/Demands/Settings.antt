@@ -55,7 +55,8 @@ module _ (w : World) (setup host : List ℕ) (room : ℕ) (load : requestOf (set
   unfolding address
   behind e =
       let inside = rw e at (accepted-write (seenOf w) (w .memory) setup (length host) room load a .1) in
-      leb-true 2 (word 4 setup) (and-eq-true-iff (leb 2 (word 4 setup)) (leb (word 4 setup) 15) .0 (and-eq-true-iff (leb 2 (word 4 setup) && leb (word 4 setup) 15) (leb (word 4 setup + word 6 setup) 16) .0 inside .0) .0)
+      let start = and-eq-true-iff (leb 2 (word 4 setup) && leb (word 4 setup) 15) (leb (word 4 setup + word 6 setup) 16) .0 inside .0 in
+      leb-true 2 (word 4 setup) (and-eq-true-iff (leb 2 (word 4 setup)) (leb (word 4 setup) 15) .0 start .0)
 
   write-keeps : take 2 (bytesAfter (Known LoadConfigData) (setupOf setup) host (w .bytes)) ≡ take 2 (w .bytes)
   write-keeps = go (inMemory (word 2 setup)) refl
