@@ -10,7 +10,8 @@ static const char help[] =
     "[OPTION..] FILE [[OPTION..] FILE..]\n"
     "Replays sessions and prints how often each event, the control\n"
     "requests one by one, met each answer in each phase before it, - where the paper allows\n"
-    "none, and how often with something held.\n"
+    "none, and how often with something held; and how often a power-on met each number of a\n"
+    "store.\n"
     "The options hold for the files after them:\n" BENCH_OPTIONS_HELP
     "Status 0: all is allowed, and met 100 times or more; 1: it is not, a call changed what it\n"
     "must leave alone, or a session is torn; 2: bad usage, or a file that cannot be read.\n";
@@ -42,6 +43,7 @@ enum event {
     STATUS,
     BURST,
     END_MARK,
+    POWER_ON,
     EVENTS
 };
 
@@ -52,7 +54,7 @@ static const char *const event_names[EVENTS] = {
     "READ_CONFIG_DATA",  "SOFT_RESET",         "BOGUS_READ",
     "other request",     "setup not 8 bytes",  "command packet",
     "drive report",      "status request",     "burst",
-    "end mark",
+    "end mark",          "power-on, store",
 };
 
 static const char *const phase_names[PHASES] = {"awaiting", "busy", "waiting", "stopped",
@@ -70,7 +72,8 @@ enum {
 
 /* What the paper allows. Configuration 0 goes with awaiting: all that sets it restores both. A
  * busy bridge never has bulk out halted, or its packet would have been refused, but may have bulk
- * in halted: a reset of either kind leaves halts, and a packet is then accepted. */
+ * in halted: a reset of either kind leaves halts, and a packet is then accepted. A power-on with a
+ * store has no phase before it, and stands with the one that it leaves. */
 static const struct {
     enum event event;
     uint8_t answer;
@@ -157,6 +160,11 @@ static const struct {
     {END_MARK, 13, AWAITING},
     {END_MARK, 14, AWAITING},
     {END_MARK, 15, AWAITING},
+    {POWER_ON, 0, AWAITING},
+    {POWER_ON, 20, AWAITING},
+    {POWER_ON, 21, AWAITING},
+    {POWER_ON, 22, AWAITING},
+    {POWER_ON, 23, AWAITING},
 };
 
 enum {
@@ -358,6 +366,8 @@ static void count_event(void *context, const struct record *record) {
  * that is refused changes none. */
 static void power_on(struct coverage *coverage, struct bench_options options) {
     uint8_t answer = bench_open(&coverage->bench, options);
+    if (options.store != NULL)
+        coverage->counts[POWER_ON][answer][thrandue_phase(coverage->bench.image)]++;
     options.store = NULL;
     bench_open(&coverage->before, options);
     size_t changed = differing(coverage->bench.image, coverage->before.image);
@@ -400,7 +410,8 @@ static void judge(struct coverage *coverage, enum event event, uint8_t answer) {
 /* Whatever an event meets, it meets with something held too; and packets are cut at every place. */
 static void judge_bursts(struct coverage *coverage) {
     for (size_t i = 0; i < ROWS; i++) {
-        if (coverage->holding[allowed[i].event][allowed[i].answer] >= LEAST)
+        if (allowed[i].event == POWER_ON ||
+            coverage->holding[allowed[i].event][allowed[i].answer] >= LEAST)
             continue;
         coverage->faults++;
         command_say("%s, answer %u with something held: met too seldom",

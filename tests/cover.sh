@@ -1,21 +1,38 @@
 # Sourced by the tests that run coverage: over generated sessions in which every allowed combination of event, answer and phase is met, and with every
-# event and answer something is held.
+# event and answer something is held; and over generated stores, in which every number of a store is.
 covering='generated-bench generated-no-memory generated-no-reply generated-small generated-bus-powered generated-store'
 
-# make_covering GENERATE FOLDER: leaves them there.
+# make_covering GENERATE STORES FOLDER: leaves them there.
 make_covering() {
-    "$1" 1 200000 >"$2"/generated-bench &&
-        "$1" 2 160000 --bursts --memory 0 >"$2"/generated-no-memory &&
-        "$1" 3 320000 --bursts --reply 0 >"$2"/generated-no-reply &&
-        "$1" 4 600000 --bursts --memory 300 --reply 12 --operations 4 >"$2"/generated-small &&
-        "$1" 5 30000 --bursts --memory 300 --reply 12 --operations 4 --bus-powered >"$2"/generated-bus-powered &&
-        "$1" 6 30000 --bursts --memory 300 --reply 12 --operations 4 --bus-powered --store sessions/written/store-in-force.store >"$2"/generated-store
+    "$1" 1 200000 >"$3"/generated-bench &&
+        "$1" 2 160000 --bursts --memory 0 >"$3"/generated-no-memory &&
+        "$1" 3 320000 --bursts --reply 0 >"$3"/generated-no-reply &&
+        "$1" 4 600000 --bursts --memory 300 --reply 12 --operations 4 >"$3"/generated-small &&
+        "$1" 5 30000 --bursts --memory 300 --reply 12 --operations 4 --bus-powered >"$3"/generated-bus-powered &&
+        "$1" 6 30000 --bursts --memory 300 --reply 12 --operations 4 --bus-powered --store sessions/written/store-in-force.store >"$3"/generated-store &&
+        make_stores "$2" "$3"
+}
+
+# make_stores STORES FOLDER: 1500 of them, and a session of no events that each is powered on for.
+make_stores() {
+    mkdir -p "$2"/stores && : >"$2"/no-events || return 1
+    seed=0
+    while [ $seed -lt 1500 ]; do
+        seed=$((seed + 1))
+        "$1" $seed >"$2"/stores/$seed || return 1
+    done
 }
 
 # covers COVERAGE FOLDER: with the options that each was made for; a store that is refused is as good as none.
 covers() {
-    "$1" "$2"/generated-bench --bursts --memory 0 "$2"/generated-no-memory --memory 2048 --reply 0 "$2"/generated-no-reply \
-        --memory 300 --reply 12 --operations 4 "$2"/generated-small --bus-powered "$2"/generated-bus-powered \
-        --store sessions/written/store-in-force.store "$2"/generated-store \
-        --store sessions/written/store-cut.store "$2"/generated-bus-powered
+    coverage=$1
+    made_there=$2
+    set -- "$made_there"/generated-bench --bursts --memory 0 "$made_there"/generated-no-memory --memory 2048 --reply 0 "$made_there"/generated-no-reply \
+        --memory 300 --reply 12 --operations 4 "$made_there"/generated-small --bus-powered "$made_there"/generated-bus-powered \
+        --store sessions/written/store-in-force.store "$made_there"/generated-store \
+        --store sessions/written/store-cut.store "$made_there"/generated-bus-powered
+    for store in "$made_there"/stores/*; do
+        set -- "$@" --store "$store" "$made_there"/no-events
+    done
+    "$coverage" "$@"
 }
