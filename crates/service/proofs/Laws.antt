@@ -13,9 +13,9 @@ use Rattle.rules.specs.Step.{done}
 use Rattle.rules.proofs.Rows.{over-all}
 use Rattle.settings.specs.declared.Settings.{Settings}
 use Rattle.settings.specs.declared.Reading.{Reading}
-use Rattle.settings.specs.Store.{settingsFrom, recordLength, leaves, writes}
+use Rattle.settings.specs.Store.{settingsFrom, recordLength, wrote, writtenIn}
 use Rattle.settings.proofs.Making.{payload-made}
-use Rattle.service.specs.Calls.{called, settingsAt, shows, writing}
+use Rattle.service.specs.Calls.{result, settingsAt, showing, lays}
 
 -- fourteen of fifteen bytes, copied
 pub taken : (s zeros : List ℕ) {part row : List ℕ} → length s ≡ 15 → length zeros ≡ 14 → part ≡ take 14 s → row ≡ over zeros 0 part
@@ -26,23 +26,23 @@ taken s zeros n h p e =
 
 -- what is read, shown
 pub shown : (r : Reading) (before : List ℕ) {after : List ℕ} → r .answer ≡ 0 → length before ≡ 15 → length (r .settings .bytes) ≡ 14
-    → after ≡ over before 0 (r .settings .bytes) → called (r .answer) (set after 14 (r .settings .kept)) ≡ shows r before
+    → after ≡ over before 0 (r .settings .bytes) → result (r .answer) (set after 14 (r .settings .kept)) ≡ showing r before
 shown r before z n h e = rw (e, payload-made before (r .settings .bytes) (r .settings .kept) n h, z) refl
 
-pub hidden : (r : Reading) (before : List ℕ) → (r .answer ≡ 0 → ⊥) → called (r .answer) before ≡ shows r before
-hidden r before bad = rw (ne-eqb (r .answer) 0 bad) refl
+pub not-shown : (r : Reading) (before : List ℕ) → (r .answer ≡ 0 → ⊥) → result (r .answer) before ≡ showing r before
+not-shown r before bad = rw (ne-eqb (r .answer) 0 bad) refl
 
 -- what is written, or not
-module _ (s : Settings) (room : List ℕ) {answer : ℕ} {after : List ℕ} (says : leaves answer after ≡ writes s room) where
-  told : called (answer + 256 * cond (done answer) recordLength 0) after ≡ writing s room
-  told = ap (λ w. called (w .answer + 256 * cond (done (w .answer)) recordLength 0) (w .room)) says
+module _ (s : Settings) (room : List ℕ) {answer : ℕ} {after : List ℕ} (says : wrote answer after ≡ writtenIn s room) where
+  told : result (answer + 256 * cond (done answer) recordLength 0) after ≡ lays s room
+  told = ap (λ w. result (w .answer + 256 * cond (done (w .answer)) recordLength 0) (w .room)) says
 
-  pub not-written : (answer ≡ 0 → ⊥) → called answer after ≡ writing s room
+  pub not-written : (answer ≡ 0 → ⊥) → result answer after ≡ lays s room
   not-written bad =
       let same : answer ≡ answer + 256 * cond (done answer) recordLength 0 = rw (ne-eqb answer 0 bad) (sym (add-zero answer)) in
-      ap (λ (n : ℕ). called n after) same ∙ told
+      ap (λ (n : ℕ). result n after) same ∙ told
 
-  pub is-written : answer ≡ 0 → called (256 * 19) after ≡ writing s room
+  pub is-written : answer ≡ 0 → result (256 * 19) after ≡ lays s room
   is-written z =
       let same : 256 * 19 ≡ answer + 256 * cond (done answer) recordLength 0 = rw z refl in
-      ap (λ (n : ℕ). called n after) same ∙ told
+      ap (λ (n : ℕ). result n after) same ∙ told

@@ -1,7 +1,7 @@
 // The tools for field service, for C on the service laptop: thin exported calls on lent bytes. host/service.h is what a caller reads.
 ghost use mathlib.Core.Path.{_≡_};
-ghost use Rattle.settings.specs.Store.{reads, newest};
-ghost use Rattle.service.specs.Calls.{called, settingsAt, shows, writing};
+ghost use Rattle.settings.specs.Store.{readBy, newest};
+ghost use Rattle.service.specs.Calls.{result, settingsAt, showing, lays};
 use rules::answers;
 use settings::RECORD;
 use settings::Settings;
@@ -24,7 +24,7 @@ fn settings_at(s: &[u8; SETTINGS]) -> Settings
 
 #[no_mangle]
 pub extern "C" fn service_read(store: &[u8], shown: &mut [u8; SETTINGS]) -> u8
-    ensures { λ r. ⌜ called r (now (shown .exit)) ≡ shows (reads newest (now (store .entry))) (now (shown .entry)) ⌝ }
+    ensures { λ r. ⌜ result r (now (shown .exit)) ≡ showing (readBy newest (now (store .entry))) (now (shown .entry)) ⌝ }
 {
     let reading = settings::read(store);
     if reading.answer == answers::DONE {
@@ -37,7 +37,7 @@ pub extern "C" fn service_read(store: &[u8], shown: &mut [u8; SETTINGS]) -> u8
 
 #[no_mangle]
 pub extern "C" fn service_write(s: &[u8; SETTINGS], room: &mut [u8]) -> u32
-    ensures { λ r. ⌜ called r (now (room .exit)) ≡ writing (settingsAt (now (s .entry))) (now (room .entry)) ⌝ }
+    ensures { λ r. ⌜ result r (now (room .exit)) ≡ lays (settingsAt (now (s .entry))) (now (room .entry)) ⌝ }
 {
     let answer = settings::write(settings_at(s), room);
     if answer != answers::DONE {

@@ -9,7 +9,7 @@ use borrow.Author.Tests.{lt-ltb, le-ltb}
 use Rattle.rules.specs.Words.{byte, over}
 use Rattle.rules.proofs.Rows.{over-laid}
 use Rattle.settings.specs.declared.Settings.{Settings}
-use Rattle.settings.specs.Store.{payloadOf, written, leaves, writes}
+use Rattle.settings.specs.Store.{payloadFor, written, wrote, writtenIn}
 
 -- fourteen bytes and the kept one, put into a row of fifteen
 pub payload-made : (row bytes : List ℕ) (kept : ℕ) → length row ≡ 15 → length bytes ≡ 14 → set (over row 0 bytes) 14 kept ≡ bytes ++ kept ∷ []
@@ -24,13 +24,13 @@ pub made : (s : Settings) {row : List ℕ} → length (s .bytes) ≡ 14 → row 
     → set row 18 (s .kept) ≡ written s
 unfolding over
 made s h e =
-    let n : length (payloadOf s) ≡ 15 = length-append (s .bytes) (s .kept ∷ []) ∙ omega arith in
+    let n : length (payloadFor s) ≡ 15 = length-append (s .bytes) (s .kept ∷ []) ∙ omega arith in
     rw (e, n) (ap (λ (l : List ℕ). 15 ∷ 0 ∷ 2 ∷ 1 ∷ l) (payload-made (replicate 15 0) (s .bytes) (s .kept) refl h))
 
-pub no-room : (s : Settings) (room : List ℕ) → length room < 19 → leaves 29 room ≡ writes s room
+pub no-room : (s : Settings) (room : List ℕ) → length room < 19 → wrote 29 room ≡ writtenIn s room
 no-room s room h = rw (lt-ltb (length room) 19 h) refl
 
 pub laid-into : (s : Settings) (room : List ℕ) {row after : List ℕ} → 19 ≤ length room → 19 ≡ length row → row ≡ written s → after ≡ over room 0 row
-    → leaves 0 after ≡ writes s room
+    → wrote 0 after ≡ writtenIn s room
 laid-into s room {row} h n e put =
-    rw (le-ltb (length room) 19 h) (ap (leaves 0) (put ∙ over-laid room row (omega arith) ∙ ap (λ (l : List ℕ). l ++ drop (length l) room) e))
+    rw (le-ltb (length room) 19 h) (ap (wrote 0) (put ∙ over-laid room row (omega arith) ∙ ap (λ (l : List ℕ). l ++ drop (length l) room) e))

@@ -13,8 +13,8 @@ use borrow.Author.Tests.{lt-ltb, le-ltb, ltb-true, ltb-false, le-leb, lt-leb, eq
 use Rattle.rules.specs.Words.{byte, first}
 use Rattle.rules.specs.Step.{done}
 use Rattle.settings.specs.declared.Reading.{Reading}
-use Rattle.settings.specs.Store.{lengthIn, payloadIn, recordOf, settingsFrom, lengthOf, settingsOf, knows, recordChecks, hidden, refused, recordRead, readsOn, reads, newest, payloadOf, written}
-use Rattle.settings.specs.Stores.{accepted, Good, LastCounts, RecordIsRead, WrittenIsRead, RoomIsExact, Unfamiliar, UnfamiliarIsRefused, CutIsRefused, OtherLengthIsRefused, NothingIsRefused, RefusedShowsNothing}
+use Rattle.settings.specs.Store.{lengthOf, payloadOf, recordOf, settingsFrom, lengthFor, settingsOf, knows, recordChecks, hidden, refused, recordRead, readOn, readBy, newest, payloadFor, written}
+use Rattle.settings.specs.Stores.{accepted, Good, LastCounts, RecordIsRead, SettingsComeBack, RoomIsExact, Unfamiliar, UnfamiliarIsRefused, CutIsRefused, OtherLengthIsRefused, NothingIsRefused, RefusedShowsNothing}
 use Rattle.settings.proofs.Records.{fine, recorded, cut, unknown, other-length, good as record-good, length-alone, record-alone, made-length, made-kind, made-whole}
 
 -- ---- one record, and what is behind it
@@ -23,35 +23,35 @@ chosen : {A : Type 0} (t : Bool) (x y : A) → t ≡ true → cond t x y ≡ x
 chosen t x y e = rw e refl
 
 -- what is still ahead of a record is passed
-passes : (k n : ℕ) (so-far : Reading) (s : List ℕ) → readsOn k n so-far s ≡ readsOn k 0 so-far (drop n s)
-unfolding readsOn
+passes : (k n : ℕ) (so-far : Reading) (s : List ℕ) → readOn k n so-far s ≡ readOn k 0 so-far (drop n s)
+unfolding readOn
 passes k zero so-far s = refl
 passes k (suc n) so-far [] = refl
 passes k (suc n) so-far (b ∷ s) = passes k n so-far s
 
 -- a good record: what was read before it counts no more
 pub onward : (k : ℕ) (so-far : Reading) (s : List ℕ) → 0 < length s → recordRead k s .answer ≡ 0
-    → readsOn k 0 so-far s ≡ readsOn k 0 (recordRead k s) (drop (4 + lengthIn s) s)
-unfolding readsOn
+    → readOn k 0 so-far s ≡ readOn k 0 (recordRead k s) (drop (4 + lengthOf s) s)
+unfolding readOn
 onward k so-far [] some good = absurd (omega arith)
 onward k so-far (b ∷ s) some good =
-    let next : suc (3 + lengthIn (b ∷ s)) ≡ 4 + lengthIn (b ∷ s) = omega arith in
+    let next : suc (3 + lengthOf (b ∷ s)) ≡ 4 + lengthOf (b ∷ s) = omega arith in
     let r : Reading = recordRead k (b ∷ s) in
-    chosen (done (r .answer)) (readsOn k (3 + lengthIn (b ∷ s)) r s) _ (eq-eqb (r .answer) 0 good)
-    ∙ passes k (3 + lengthIn (b ∷ s)) r s
-    ∙ ap (λ (n : ℕ). readsOn k 0 r (drop n (b ∷ s))) next
+    chosen (done (r .answer)) (readOn k (3 + lengthOf (b ∷ s)) r s) _ (eq-eqb (r .answer) 0 good)
+    ∙ passes k (3 + lengthOf (b ∷ s)) r s
+    ∙ ap (λ (n : ℕ). readOn k 0 r (drop n (b ∷ s))) next
 
 -- one that is refused
-pub ends : (k : ℕ) (so-far : Reading) (s : List ℕ) → 0 < length s → (recordRead k s .answer ≡ 0 → ⊥) → readsOn k 0 so-far s ≡ recordRead k s
-unfolding readsOn
+pub ends : (k : ℕ) (so-far : Reading) (s : List ℕ) → 0 < length s → (recordRead k s .answer ≡ 0 → ⊥) → readOn k 0 so-far s ≡ recordRead k s
+unfolding readOn
 ends k so-far [] some bad = absurd (omega arith)
 ends k so-far (b ∷ s) some bad = rw (ne-eqb (recordRead k (b ∷ s) .answer) 0 bad) refl
 
 -- ---- good records in front
 
-fronts : (k ahead : ℕ) (so-far : Reading) (front rest : List ℕ) → ahead ≤ length front → readsOn k ahead so-far front .answer ≡ 0
-    → readsOn k ahead so-far (front ++ rest) ≡ readsOn k 0 (readsOn k ahead so-far front) rest
-unfolding readsOn
+fronts : (k ahead : ℕ) (so-far : Reading) (front rest : List ℕ) → ahead ≤ length front → readOn k ahead so-far front .answer ≡ 0
+    → readOn k ahead so-far (front ++ rest) ≡ readOn k 0 (readOn k ahead so-far front) rest
+unfolding readOn
 fronts k zero so-far [] rest inside good = refl
 fronts k (suc ahead) so-far [] rest inside good = absurd (omega arith)
 fronts k (suc ahead) so-far (b ∷ front) rest inside good = fronts k ahead so-far front rest (omega arith) good
@@ -61,32 +61,32 @@ fronts k zero so-far (b ∷ front) rest inside good = go (done (r .answer)) refl
     r = recordRead k (b ∷ front)
 
     ahead : ℕ
-    ahead = 3 + lengthIn (b ∷ front)
+    ahead = 3 + lengthOf (b ∷ front)
 
-    go : (t : Bool) → done (r .answer) ≡ t → cond t (readsOn k ahead r front) r .answer ≡ 0
-        → (ahead ≤ length front → readsOn k ahead r front .answer ≡ 0 → readsOn k ahead r (front ++ rest) ≡ readsOn k 0 (readsOn k ahead r front) rest)
-        → readsOn k 0 so-far (b ∷ (front ++ rest)) ≡ readsOn k 0 (cond t (readsOn k ahead r front) r) rest
+    go : (t : Bool) → done (r .answer) ≡ t → cond t (readOn k ahead r front) r .answer ≡ 0
+        → (ahead ≤ length front → readOn k ahead r front .answer ≡ 0 → readOn k ahead r (front ++ rest) ≡ readOn k 0 (readOn k ahead r front) rest)
+        → readOn k 0 so-far (b ∷ (front ++ rest)) ≡ readOn k 0 (cond t (readOn k ahead r front) r) rest
     go true e good behind =
-        let whole : 4 + lengthIn (b ∷ front) ≤ length (b ∷ front) = fine k (b ∷ front) (recorded k (b ∷ front) (eqb-true (r .answer) 0 e)) .whole in
+        let whole : 4 + lengthOf (b ∷ front) ≤ length (b ∷ front) = fine k (b ∷ front) (recorded k (b ∷ front) (eqb-true (r .answer) 0 e)) .whole in
         rw (record-alone (b ∷ front) rest whole k, length-alone (b ∷ front) rest whole)
-        (chosen (done (r .answer)) (readsOn k ahead r (front ++ rest)) r e ∙ behind (omega arith) good)
+        (chosen (done (r .answer)) (readOn k ahead r (front ++ rest)) r e ∙ behind (omega arith) good)
     go false e good behind = absurd (eqb-false (r .answer) 0 e good)
 
 pub last-counts : LastCounts
-unfolding readsOn
+unfolding readOn
 last-counts k front [] good some = absurd (omega arith)
 last-counts k front (b ∷ rest) (inl none) some = rw none refl
 last-counts k front (b ∷ rest) (inr good) some = fronts k 0 _ front (b ∷ rest) (omega arith) good
 
 -- a record that is refused, behind good ones
 refuses : (k number : ℕ) (front s : List ℕ) → Good k front → 0 < length s → recordRead k s ≡ refused (suc number)
-    → reads k (front ++ s) ≡ refused (suc number)
+    → readBy k (front ++ s) ≡ refused (suc number)
 refuses k number front s good some says =
     let bad : recordRead k s .answer ≡ 0 → ⊥ = λ z. suc-ne-zero number (sym (ap (λ (r : Reading). r .answer) says) ∙ z) in
     last-counts k front s good some ∙ ends k _ s some bad ∙ says
 
 pub nothing-is-refused : NothingIsRefused
-unfolding readsOn
+unfolding readOn
 nothing-is-refused k = refl
 
 -- ---- a made record
@@ -102,35 +102,35 @@ knows-keeping : (k : ℕ) → 0x0102 ≤ k → knows k 0x0102 ≡ true
 knows-keeping k h = rw (le-leb 0x0102 k h) refl
 
 -- one of a kind that the reader knows, as long as it should be, is all of its store
-made-read : (k kind : ℕ) (payload : List ℕ) → kind < 65536 → length payload < 65536 → knows k kind ≡ true → length payload ≡ lengthOf kind
-    → reads k (recordOf kind payload) ≡ accepted (settingsOf kind payload)
-unfolding readsOn
+made-read : (k kind : ℕ) (payload : List ℕ) → kind < 65536 → length payload < 65536 → knows k kind ≡ true → length payload ≡ lengthFor kind
+    → readBy k (recordOf kind payload) ≡ accepted (settingsOf kind payload)
+unfolding readOn
 made-read k kind payload h short known fits =
     let s : List ℕ = recordOf kind payload in
-    let says : lengthIn s ≡ length payload = made-length kind payload [] short in
-    let holds : payloadIn s ≡ payload = ap (λ (n : ℕ). take n payload) says ∙ take-length payload in
+    let says : lengthOf s ≡ length payload = made-length kind payload [] short in
+    let holds : payloadOf s ≡ payload = ap (λ (n : ℕ). take n payload) says ∙ take-length payload in
     let read : recordRead k s ≡ accepted (settingsOf kind payload) =
     record-good k s says (omega arith) (made-kind kind payload [] short h) known fits
     ∙ ap (λ (p : List ℕ). accepted (settingsOf kind p)) holds in
-    let all : length s ≤ 4 + lengthIn s = omega (arith, says) in
+    let all : length s ≤ 4 + lengthOf s = omega (arith, says) in
     onward k (refused 23) s (omega arith) (ap (λ (r : Reading). r .answer) read)
-    ∙ ap (readsOn k 0 (recordRead k s)) (drop-of-length-le s all)
+    ∙ ap (readOn k 0 (recordRead k s)) (drop-of-length-le s all)
     ∙ read
 
 module _ (k kind : ℕ) (front payload rest : List ℕ) (good : Good k front) (h : kind < 65536) (short : length payload < 65536) where
   -- one that is refused, behind good ones and with more behind it
   among : (number : ℕ) → recordRead k (recordOf kind payload ++ rest) ≡ refused (suc number)
-      → reads k (front ++ recordOf kind payload ++ rest) ≡ refused (suc number)
+      → readBy k (front ++ recordOf kind payload ++ rest) ≡ refused (suc number)
   among number says =
-      ap (reads k) (append-assoc front (recordOf kind payload) rest) ∙ refuses k number front (recordOf kind payload ++ rest) good (omega arith) says
+      ap (readBy k) (append-assoc front (recordOf kind payload) rest) ∙ refuses k number front (recordOf kind payload ++ rest) good (omega arith) says
 
-  made-unknown : knows k kind ≡ false → reads k (front ++ recordOf kind payload ++ rest) ≡ refused 21
+  made-unknown : knows k kind ≡ false → readBy k (front ++ recordOf kind payload ++ rest) ≡ refused 21
   made-unknown e =
       among 20
       (unknown k (recordOf kind payload ++ rest) (made-length kind payload rest short) (made-whole kind payload rest short)
       (made-kind kind payload rest short h) e)
 
-  made-other : knows k kind ≡ true → (length payload ≡ lengthOf kind → ⊥) → reads k (front ++ recordOf kind payload ++ rest) ≡ refused 22
+  made-other : knows k kind ≡ true → (length payload ≡ lengthFor kind → ⊥) → readBy k (front ++ recordOf kind payload ++ rest) ≡ refused 22
   made-other known e =
       among 21
       (other-length k (recordOf kind payload ++ rest) (made-length kind payload rest short) (made-whole kind payload rest short)
@@ -155,7 +155,7 @@ made-cut k kind n payload short less = go (ltb n 4) refl
     held : length s ≡ n
     held = length-take-le n (recordOf kind payload) (omega arith)
 
-    says : 4 ≤ n → lengthIn s ≡ length payload
+    says : 4 ≤ n → lengthOf s ≡ length payload
     says h =
         rw (getD-take n (recordOf kind payload) 0 0 (omega arith), getD-take n (recordOf kind payload) 1 0 (omega arith)) (made-length kind payload [] short)
 
@@ -180,14 +180,14 @@ record-is-read k bytes kept h =
           ∙ ap (λ (b : ℕ). accepted (settingsFrom bytes b)) (getD-at bytes kept [] 0 14 h),
     )
 
-pub written-is-read : WrittenIsRead
-written-is-read s h =
-    let n : length (payloadOf s) ≡ 15 = length-append (s .bytes) (s .kept ∷ []) ∙ omega arith in
-    (record-is-read newest (s .bytes) (s .kept) h .1 (omega arith), refl, made-length newest (payloadOf s) [] (omega arith) ∙ n, omega arith)
+pub settings-come-back : SettingsComeBack
+settings-come-back s h =
+    let n : length (payloadFor s) ≡ 15 = length-append (s .bytes) (s .kept ∷ []) ∙ omega arith in
+    (record-is-read newest (s .bytes) (s .kept) h .1 (omega arith), refl, made-length newest (payloadFor s) [] (omega arith) ∙ n, omega arith)
 
 pub room-is-exact : RoomIsExact
 room-is-exact s room h =
-    let n : length (written s) ≡ 19 = written-is-read s h .3 in (
+    let n : length (written s) ≡ 19 = settings-come-back s h .3 in (
       λ less. rw (lt-ltb (length room) 19 (omega arith)) refl,
       λ enough. rw (le-ltb (length room) 19 (omega arith)) refl,
     )
@@ -199,18 +199,18 @@ unfolding recordRead
 hides-record k s bad = rw (ne-eqb (first (recordChecks k s)) 0 bad) refl
 
 hides : (k ahead : ℕ) (so-far : Reading) (s : List ℕ) → ((so-far .answer ≡ 0 → ⊥) → so-far .settings ≡ hidden)
-    → (readsOn k ahead so-far s .answer ≡ 0 → ⊥) → readsOn k ahead so-far s .settings ≡ hidden
-unfolding readsOn
+    → (readOn k ahead so-far s .answer ≡ 0 → ⊥) → readOn k ahead so-far s .settings ≡ hidden
+unfolding readOn
 hides k ahead so-far [] before bad = before bad
 hides k (suc ahead) so-far (b ∷ s) before bad = hides k ahead so-far s before bad
 hides k zero so-far (b ∷ s) before bad =
-    go (done (r .answer)) refl bad (hides k (3 + lengthIn (b ∷ s)) r s (λ n. hides-record k (b ∷ s) n))
+    go (done (r .answer)) refl bad (hides k (3 + lengthOf (b ∷ s)) r s (λ n. hides-record k (b ∷ s) n))
   where
     r : Reading
     r = recordRead k (b ∷ s)
 
     next : Reading
-    next = readsOn k (3 + lengthIn (b ∷ s)) r s
+    next = readOn k (3 + lengthOf (b ∷ s)) r s
 
     go : (t : Bool) → done (r .answer) ≡ t → (cond t next r .answer ≡ 0 → ⊥) → ((next .answer ≡ 0 → ⊥) → next .settings ≡ hidden)
         → cond t next r .settings ≡ hidden

@@ -11,7 +11,7 @@ use borrow.Author.Tests.{eqb-true, ne-eqb}
 use Rattle.rules.specs.Words.{byte, first, over}
 use Rattle.rules.proofs.Rows.{over-all}
 use Rattle.settings.specs.declared.Settings.{Settings}
-use Rattle.settings.specs.Store.{lengthIn, kindIn, payloadIn, settingsFrom, lengthOf, settingsOf, knows, recordChecks, refused, recordRead, newest}
+use Rattle.settings.specs.Store.{lengthOf, kindOf, payloadOf, settingsFrom, lengthFor, settingsOf, knows, recordChecks, refused, recordRead, newest}
 use Rattle.settings.proofs.Records.{Fine, fine}
 
 -- a record is read by the number of its checks
@@ -20,7 +20,7 @@ unfolding recordRead
 read-refused k s {n} e bad = rw (← e, ne-eqb n 0 bad) refl
 
 pub read-good : (k : ℕ) (s : List ℕ) {n : ℕ} → n ≡ first (recordChecks k s) → n ≡ 0 → {settings : Settings}
-    → settings ≡ settingsOf (kindIn s) (payloadIn s) → record { answer = n; settings = settings } ≡ recordRead k s
+    → settings ≡ settingsOf (kindOf s) (payloadOf s) → record { answer = n; settings = settings } ≡ recordRead k s
 unfolding recordRead
 read-good k s e z h = rw (← e, z, h) refl
 
@@ -35,7 +35,7 @@ knows-both kind t e = go (eqb kind 0x0101) refl (eqb kind 0x0102) refl t e
     go false p false q t e = rw and-false (ap not e)
 
 -- a payload has fourteen bytes or fifteen
-payload-least : (kind : ℕ) → 14 ≤ lengthOf kind
+payload-least : (kind : ℕ) → 14 ≤ lengthFor kind
 payload-least kind = go (eqb kind 0x0101)
   where
     go : (t : Bool) → 14 ≤ cond t 14 15
@@ -49,30 +49,30 @@ module _ (k : ℕ) (s : List ℕ) (passes : first (recordChecks k s) ≡ 0) wher
   f = fine k s passes
 
   pub eighteen : 18 ≤ length s
-  eighteen = omega (arith, f .whole, f .fits, payload-least (kindIn s))
+  eighteen = omega (arith, f .whole, f .fits, payload-least (kindOf s))
 
   -- copied to a row of fourteen
-  copied : {row : List ℕ} (zeros : List ℕ) → length zeros ≡ 14 → row ≡ over zeros 0 (take 14 (drop 4 s)) → row ≡ take 14 (payloadIn s)
+  copied : {row : List ℕ} (zeros : List ℕ) → length zeros ≡ 14 → row ≡ over zeros 0 (take 14 (drop 4 s)) → row ≡ take 14 (payloadOf s)
   copied zeros h e =
       let n : length (take 14 (drop 4 s)) ≡ 14 = length-take-le 14 (drop 4 s) (omega (arith, length-drop 4 s, eighteen)) in
       e
       ∙ over-all zeros (take 14 (drop 4 s)) (n ∙ sym h)
-      ∙ sym (take-take 14 (lengthIn s) (drop 4 s) (omega (arith, f .fits, payload-least (kindIn s))))
+      ∙ sym (take-take 14 (lengthOf s) (drop 4 s) (omega (arith, f .fits, payload-least (kindOf s))))
 
-  pub plain-there : {row : List ℕ} (zeros : List ℕ) → length zeros ≡ 14 → row ≡ over zeros 0 (take 14 (drop 4 s)) → kindIn s ≡ 0x0101
-      → settingsFrom row 0 ≡ settingsOf (kindIn s) (payloadIn s)
+  pub plain-there : {row : List ℕ} (zeros : List ℕ) → length zeros ≡ 14 → row ≡ over zeros 0 (take 14 (drop 4 s)) → kindOf s ≡ 0x0101
+      → settingsFrom row 0 ≡ settingsOf (kindOf s) (payloadOf s)
   plain-there zeros h e kind = rw (kind, copied zeros h e) refl
 
-  module _ (keeps : kindIn s ≡ 0x0101 → ⊥) where
-    fifteen : lengthIn s ≡ 15
-    fifteen = f .fits ∙ rw (ne-eqb (kindIn s) 0x0101 keeps) refl
+  module _ (keeps : kindOf s ≡ 0x0101 → ⊥) where
+    fifteen : lengthOf s ≡ 15
+    fifteen = f .fits ∙ rw (ne-eqb (kindOf s) 0x0101 keeps) refl
 
     pub nineteen : 18 < length s
     nineteen = omega (arith, f .whole, fifteen)
 
-    kept-there : byte 18 s ≡ byte 14 (payloadIn s)
-    kept-there = sym (getD-take (lengthIn s) (drop 4 s) 14 0 (omega (arith, fifteen)) ∙ getD-drop 4 s 14 0)
+    kept-there : byte 18 s ≡ byte 14 (payloadOf s)
+    kept-there = sym (getD-take (lengthOf s) (drop 4 s) 14 0 (omega (arith, fifteen)) ∙ getD-drop 4 s 14 0)
 
     pub keeping-there : {row : List ℕ} (zeros : List ℕ) → length zeros ≡ 14 → row ≡ over zeros 0 (take 14 (drop 4 s))
-        → settingsFrom row (byte 18 s) ≡ settingsOf (kindIn s) (payloadIn s)
-    keeping-there zeros h e = rw (ne-eqb (kindIn s) 0x0101 keeps, copied zeros h e, kept-there) refl
+        → settingsFrom row (byte 18 s) ≡ settingsOf (kindOf s) (payloadOf s)
+    keeping-there zeros h e = rw (ne-eqb (kindOf s) 0x0101 keeps, copied zeros h e, kept-there) refl

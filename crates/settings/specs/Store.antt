@@ -12,14 +12,14 @@ use Rattle.settings.specs.declared.Reading.{Reading}
 
 -- ---- "A store is a run of records: payload length (2, low first), kind (2, low first), payload."
 
-abbrev pub lengthIn : List ℕ → ℕ
-lengthIn s = word 0 s
+abbrev pub lengthOf : List ℕ → ℕ
+lengthOf s = word 0 s
 
-abbrev pub kindIn : List ℕ → ℕ
-kindIn s = word 2 s
+abbrev pub kindOf : List ℕ → ℕ
+kindOf s = word 2 s
 
-abbrev pub payloadIn : List ℕ → List ℕ
-payloadIn s = take (lengthIn s) (drop 4 s)
+abbrev pub payloadOf : List ℕ → List ℕ
+payloadOf s = take (lengthOf s) (drop 4 s)
 
 -- a record, as it is made
 abbrev pub bytes2 : ℕ → List ℕ
@@ -33,8 +33,8 @@ recordOf kind payload = bytes2 (length payload) ++ bytes2 kind ++ payload
 abbrev pub settingsFrom : List ℕ → ℕ → Settings
 settingsFrom bytes kept = record { bytes = bytes; kept = kept }
 
-abbrev pub lengthOf : ℕ → ℕ
-lengthOf kind = cond (eqb kind 0x0101) 14 15
+abbrev pub lengthFor : ℕ → ℕ
+lengthFor kind = cond (eqb kind 0x0101) 14 15
 
 abbrev pub settingsOf : ℕ → List ℕ → Settings
 settingsOf kind payload = settingsFrom (take 14 payload) (cond (eqb kind 0x0101) 0 (byte 14 payload))
@@ -49,9 +49,9 @@ knows k kind = leb kind k && (eqb kind 0x0101 || eqb kind 0x0102)
 -- of the record at the front of s
 abbrev pub recordChecks : ℕ → List ℕ → List Check
 recordChecks k s =
-    20 if ltb (length s) (4 + lengthIn s)
-    ∷ 21 if not (knows k (kindIn s))
-    ∷ 22 if not (eqb (lengthIn s) (lengthOf (kindIn s)))
+    20 if ltb (length s) (4 + lengthOf s)
+    ∷ 21 if not (knows k (kindOf s))
+    ∷ 22 if not (eqb (lengthOf s) (lengthFor (kindOf s)))
     ∷ []
 
 -- "refuses by number and shows nothing": the settings that come with a refusal are the defaults
@@ -64,18 +64,18 @@ refused number = record { answer = number; settings = hidden }
 unfoldable pub recordRead : ℕ → List ℕ → Reading
 recordRead k s =
     let answer : ℕ = first (recordChecks k s) in
-    record { answer = answer; settings = cond (done answer) (settingsOf (kindIn s) (payloadIn s)) hidden }
+    record { answer = answer; settings = cond (done answer) (settingsOf (kindOf s) (payloadOf s)) hidden }
 
 -- "The last record is the settings": what was read so far stands until the next record is read; of the record before, so much is still ahead
-unfoldable pub readsOn : ℕ → ℕ → Reading → List ℕ → Reading
-readsOn k ahead so-far [] = so-far
-readsOn k (suc ahead) so-far (b ∷ s) = readsOn k ahead so-far s
-readsOn k zero so-far (b ∷ s) =
+unfoldable pub readOn : ℕ → ℕ → Reading → List ℕ → Reading
+readOn k ahead so-far [] = so-far
+readOn k (suc ahead) so-far (b ∷ s) = readOn k ahead so-far s
+readOn k zero so-far (b ∷ s) =
     let r : Reading = recordRead k (b ∷ s) in
-    cond (done (r .answer)) (readsOn k (3 + lengthIn (b ∷ s)) r s) r
+    cond (done (r .answer)) (readOn k (3 + lengthOf (b ∷ s)) r s) r
 
-abbrev pub reads : ℕ → List ℕ → Reading
-reads k store = readsOn k 0 (refused 23) store
+abbrev pub readBy : ℕ → List ℕ → Reading
+readBy k store = readOn k 0 (refused 23) store
 
 -- ---- "The writer makes one record of the newest kind it knows." "Writer: 29 less room than the record, nothing written."
 
@@ -85,22 +85,22 @@ newest = 0x0102
 
 -- how long such a record is
 abbrev pub recordLength : ℕ
-recordLength = 4 + lengthOf newest
+recordLength = 4 + lengthFor newest
 
-abbrev pub payloadOf : Settings → List ℕ
-payloadOf s = s .bytes ++ s .kept ∷ []
+abbrev pub payloadFor : Settings → List ℕ
+payloadFor s = s .bytes ++ s .kept ∷ []
 
 abbrev pub written : Settings → List ℕ
-written s = recordOf newest (payloadOf s)
+written s = recordOf newest (payloadFor s)
 
 pub record Written : Type 0 where
   pub answer : ℕ
   pub room : List ℕ
 
-abbrev pub leaves : ℕ → List ℕ → Written
-leaves answer room = record { answer = answer; room = room }
+abbrev pub wrote : ℕ → List ℕ → Written
+wrote answer room = record { answer = answer; room = room }
 
-abbrev pub writes : Settings → List ℕ → Written
-writes s room =
+abbrev pub writtenIn : Settings → List ℕ → Written
+writtenIn s room =
     let answer : ℕ = first (29 if ltb (length room) recordLength ∷ []) in
-    leaves answer (cond (done answer) (laid (written s) room) room)
+    wrote answer (cond (done answer) (laid (written s) room) room)

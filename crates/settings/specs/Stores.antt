@@ -6,7 +6,7 @@ use mathlib.Core.List.{List, [], _∷_, _++_}
 use lib.ListN.{length, take, drop}
 use Rattle.settings.specs.declared.Settings.{Settings}
 use Rattle.settings.specs.declared.Reading.{Reading}
-use Rattle.settings.specs.Store.{lengthIn, kindIn, recordOf, settingsFrom, lengthOf, refused, reads, newest, recordLength, written, leaves, writes}
+use Rattle.settings.specs.Store.{lengthOf, kindOf, recordOf, settingsFrom, lengthFor, refused, readBy, newest, recordLength, written, wrote, writtenIn}
 
 -- good settings: number 0
 abbrev pub accepted : Settings → Reading
@@ -14,33 +14,33 @@ accepted s = record { answer = 0; settings = s }
 
 -- nothing, or records that are good by a reader that knows kinds up to k
 abbrev pub Good : ℕ → List ℕ → Type 0
-Good k front = (front ≡ []) ⊎ (reads k front .answer ≡ 0)
+Good k front = (front ≡ []) ⊎ (readBy k front .answer ≡ 0)
 
 -- "The last record is the settings": good records are as if they were not there, once another follows, whatever it is.
 abbrev pub LastCounts : Type 0
-LastCounts = (k : ℕ) (front rest : List ℕ) → Good k front → 0 < length rest → reads k (front ++ rest) ≡ reads k rest
+LastCounts = (k : ℕ) (front rest : List ℕ) → Good k front → 0 < length rest → readBy k (front ++ rest) ≡ readBy k rest
 
 -- "Kind 0x0101 is fourteen bytes .. Kind 0x0102 is the same and one byte more .. ; 0x0101 reads as 0 there."
 abbrev pub RecordIsRead : Type 0
 RecordIsRead =
     (k : ℕ) (bytes : List ℕ) (kept : ℕ) → length bytes ≡ 14
-    → (0x0101 ≤ k → reads k (recordOf 0x0101 bytes) ≡ accepted (settingsFrom bytes 0))
-    × (0x0102 ≤ k → reads k (recordOf 0x0102 (bytes ++ kept ∷ [])) ≡ accepted (settingsFrom bytes kept))
+    → (0x0101 ≤ k → readBy k (recordOf 0x0101 bytes) ≡ accepted (settingsFrom bytes 0))
+    × (0x0102 ≤ k → readBy k (recordOf 0x0102 (bytes ++ kept ∷ [])) ≡ accepted (settingsFrom bytes kept))
 
 -- "Writing then reading gives back the same settings", for all settings: the number is 0. The store is one record, of the newest kind, and as long as the
 -- room that the writer asks for.
-abbrev pub WrittenIsRead : Type 0
-WrittenIsRead =
+abbrev pub SettingsComeBack : Type 0
+SettingsComeBack =
     (s : Settings) → length (s .bytes) ≡ 14
-    → (reads newest (written s) ≡ accepted s)
-    × (kindIn (written s) ≡ newest) × (lengthIn (written s) ≡ lengthOf newest) × (length (written s) ≡ recordLength)
+    → (readBy newest (written s) ≡ accepted s)
+    × (kindOf (written s) ≡ newest) × (lengthOf (written s) ≡ lengthFor newest) × (length (written s) ≡ recordLength)
 
 -- "Writer: 29 less room than the record, nothing written"; else the record stands at the front of the room, and the rest is unchanged.
 abbrev pub RoomIsExact : Type 0
 RoomIsExact =
     (s : Settings) (room : List ℕ) → length (s .bytes) ≡ 14
-    → (length room < length (written s) → writes s room ≡ leaves 29 room)
-    × (length (written s) ≤ length room → writes s room ≡ leaves 0 (written s ++ drop (length (written s)) room))
+    → (length room < length (written s) → writtenIn s room ≡ wrote 29 room)
+    × (length (written s) ≤ length room → writtenIn s room ≡ wrote 0 (written s ++ drop (length (written s)) room))
 
 -- a kind above the newest that a reader knows, or none of those that there are
 abbrev pub Unfamiliar : ℕ → ℕ → Type 0
@@ -50,27 +50,27 @@ Unfamiliar k kind = (k < kind) ⊎ ((kind ≡ 0x0101 → ⊥) × (kind ≡ 0x010
 abbrev pub UnfamiliarIsRefused : Type 0
 UnfamiliarIsRefused =
     (k kind : ℕ) (front payload rest : List ℕ) → Good k front → Unfamiliar k kind → kind < 65536 → length payload < 65536
-    → reads k (front ++ recordOf kind payload ++ rest) ≡ refused 21
+    → readBy k (front ++ recordOf kind payload ++ rest) ≡ refused 21
 
 -- "20 cut record": a beginning of a record that is not all of it, whatever its kind and its length.
 abbrev pub CutIsRefused : Type 0
 CutIsRefused =
     (k kind n : ℕ) (front payload : List ℕ) → Good k front → length payload < 65536 → 0 < n → n < 4 + length payload
-    → reads k (front ++ take n (recordOf kind payload)) ≡ refused 20
+    → readBy k (front ++ take n (recordOf kind payload)) ≡ refused 20
 
 -- "22 payload length wrong for its kind", whatever follows.
 abbrev pub OtherLengthIsRefused : Type 0
 OtherLengthIsRefused =
     (k : ℕ) (front payload rest : List ℕ) → Good k front → length payload < 65536
-    → (0x0101 ≤ k → (length payload ≡ 14 → ⊥) → reads k (front ++ recordOf 0x0101 payload ++ rest) ≡ refused 22)
-    × (0x0102 ≤ k → (length payload ≡ 15 → ⊥) → reads k (front ++ recordOf 0x0102 payload ++ rest) ≡ refused 22)
+    → (0x0101 ≤ k → (length payload ≡ 14 → ⊥) → readBy k (front ++ recordOf 0x0101 payload ++ rest) ≡ refused 22)
+    × (0x0102 ≤ k → (length payload ≡ 15 → ⊥) → readBy k (front ++ recordOf 0x0102 payload ++ rest) ≡ refused 22)
 
 -- "23 no record"
 abbrev pub NothingIsRefused : Type 0
-NothingIsRefused = (k : ℕ) → reads k [] ≡ refused 23
+NothingIsRefused = (k : ℕ) → readBy k [] ≡ refused 23
 
 -- A refused store shows nothing: what comes with the refusal are the defaults, "all are 0, but 0x04 is 0x24", whatever stands in the store.
 abbrev pub RefusedShowsNothing : Type 0
 RefusedShowsNothing =
-    (k : ℕ) (store : List ℕ) → (reads k store .answer ≡ 0 → ⊥)
-    → reads k store .settings ≡ settingsFrom (0 ∷ 0 ∷ 0x24 ∷ 0 ∷ 0 ∷ 0 ∷ 0 ∷ 0 ∷ 0 ∷ 0 ∷ 0 ∷ 0 ∷ 0 ∷ 0 ∷ []) 0
+    (k : ℕ) (store : List ℕ) → (readBy k store .answer ≡ 0 → ⊥)
+    → readBy k store .settings ≡ settingsFrom (0 ∷ 0 ∷ 0x24 ∷ 0 ∷ 0 ∷ 0 ∷ 0 ∷ 0 ∷ 0 ∷ 0 ∷ 0 ∷ 0 ∷ 0 ∷ 0 ∷ []) 0

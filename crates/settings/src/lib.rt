@@ -2,7 +2,7 @@
 ghost use mathlib.Core.Path.{_≡_};
 ghost use lib.ListN.{length};
 ghost use Rattle.rules.specs.Words.{first};
-ghost use Rattle.settings.specs.Store.{lengthOf, settingsOf, kindIn, payloadIn, recordChecks, hidden, refused as refusal, recordRead, reads, newest, written, leaves, writes};
+ghost use Rattle.settings.specs.Store.{lengthFor, settingsOf, kindOf, payloadOf, recordChecks, hidden, refused as refusal, recordRead, readBy, newest, written, wrote, writtenIn};
 use rules::answers;
 
 // The bytes for configuration addresses 2 to F, and one that is kept for the next edition.
@@ -32,7 +32,7 @@ pub const RECORD: usize = 19;
 const FIRST: usize = 2;
 
 fn length_of(kind: u16) -> u16
-    ensures { λ r. ⌜ r ≡ lengthOf kind ⌝ }
+    ensures { λ r. ⌜ r ≡ lengthFor kind ⌝ }
 {
     if kind == PLAIN { 14 } else { 15 }
 }
@@ -85,7 +85,7 @@ fn refused(answer: u8) -> Reading
 // The settings of the record at the front of a store, which no check refuses.
 fn settings_in(store: &[u8]) -> Settings
     requires { ⌜ first (recordChecks newest (now store)) ≡ 0 ⌝ }
-    ensures { λ r. ⌜ r ≡ settingsOf (kindIn (now (store .entry))) (payloadIn (now (store .entry))) ⌝ }
+    ensures { λ r. ⌜ r ≡ settingsOf (kindOf (now (store .entry))) (payloadOf (now (store .entry))) ⌝ }
 {
     let mut bytes = [0; 14];
     lent::copy(&mut bytes, 0, &store[HEAD..HEAD + 14]);
@@ -115,7 +115,7 @@ fn read_record(store: &[u8]) -> Reading
 
 // Record by record from the front; the last one is the settings.
 pub fn read(store: &[u8]) -> Reading
-    ensures { λ r. ⌜ r ≡ reads newest (now (store .entry)) ⌝ }
+    ensures { λ r. ⌜ r ≡ readBy newest (now (store .entry)) ⌝ }
 {
     let mut found = refused(answers::NO_RECORD);
     let mut at = 0;
@@ -145,7 +145,7 @@ fn record_of(settings: Settings) -> [u8; RECORD]
 
 // One record, at the front of the room.
 pub fn write(settings: Settings, room: &mut [u8]) -> u8
-    ensures { λ r. ⌜ leaves r (now (room .exit)) ≡ writes settings (now (room .entry)) ⌝ }
+    ensures { λ r. ⌜ wrote r (now (room .exit)) ≡ writtenIn settings (now (room .entry)) ⌝ }
 {
     if room.len() < RECORD {
         return answers::RECORD_ROOM;

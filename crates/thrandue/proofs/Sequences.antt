@@ -21,7 +21,7 @@ use Rattle.rules.proofs.Demands.Sizes.{Measured, sized, stepped, measured, meas
 use Rattle.settings.specs.declared.Reading.{Reading}
 use Rattle.settings.specs.declared.Settings.{Settings}
 use Rattle.settings.specs.Store.{settingsFrom, newest}
-use Rattle.settings.proofs.Stores.{written-is-read, refused-shows-nothing}
+use Rattle.settings.proofs.Stores.{settings-come-back, refused-shows-nothing}
 use Rattle.image.specs.Image.{powered, worldOf, dropped, put, added}
 use Rattle.image.proofs.Holding.{added-length, burst-in-step}
 use Rattle.image.proofs.InStep.{powers-on, powered-length, in-step, dropped-in-step, put-length}
@@ -188,7 +188,7 @@ stored-is-restored start memory cs kept b =
     let run = since-on start memory cs b in
     let w : World = standsFor (partsSince start memory cs) in
     let n : length (drop 2 (w .bytes)) ≡ 14 = length-drop 2 (w .bytes) ∙ omega (arith, sixteen (partsSince start memory cs .0) (omega (arith, run .image))) in
-    let read = written-is-read (settingsFrom (drop 2 (w .bytes)) kept) n .0 in (
+    let read = settings-come-back (settingsFrom (drop 2 (w .bytes)) kept) n .0 in (
       ap (λ (r : Reading). r .answer) read,
       ap (λ (r : Reading). worldOf (powered (starting (w .bridge .dock) (r .settings .bytes))) memory .bytes) read
           ∙ ap (λ (v : World). v .bytes) (powers-on (starting (w .bridge .dock) (drop 2 (w .bytes))) memory)

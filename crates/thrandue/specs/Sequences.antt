@@ -12,7 +12,7 @@ use Rattle.rules.specs.Step.{Event, BusReset, Control, Packet, Report, StatusRe
 use Rattle.rules.specs.Promise.{Left, leaves}
 use Rattle.rules.specs.Demands.Boundary.{Stop, boundary, keptWrites, keptBoundary}
 use Rattle.rules.specs.Demands.Sizes.{AllOfBytes, Sized}
-use Rattle.settings.specs.Store.{settingsFrom, reads, newest, written}
+use Rattle.settings.specs.Store.{settingsFrom, readBy, newest, written}
 use Rattle.image.specs.Image.{worldOf, powered}
 use Rattle.thrandue.specs.Calls.{Called, returns, calls, poweredBy}
 
@@ -129,7 +129,7 @@ CallsResume =
 -- "a refused store leaves the defaults": the image is that of a power-on without a store, byte for byte
 abbrev pub RefusedLeavesDefaults : Type 0
 RefusedLeavesDefaults =
-    (dock : Dock) (store : List ℕ) → (reads newest store .answer ≡ 0 → ⊥) → poweredBy dock (reads newest store) .image ≡ powered (byDefault dock)
+    (dock : Dock) (store : List ℕ) → (readBy newest store .answer ≡ 0 → ⊥) → poweredBy dock (readBy newest store) .image ≡ powered (byDefault dock)
 
 -- Field service keeps settings and puts them back: after any calls, the fourteen bytes that a dock holds are written to a store, with any byte kept. A dock
 -- that is powered on with it answers 0 and holds the same sixteen.
@@ -137,5 +137,5 @@ abbrev pub StoredIsRestored : Type 0
 StoredIsRestored =
     (start : Start) (memory : List ℕ) (cs : List Call) (kept : ℕ) → AllOfBytes (eventsOf cs)
     → (let w : World = standsFor (partsSince start memory cs) in
-    let c : Called = poweredBy (w .bridge .dock) (reads newest (written (settingsFrom (drop 2 (w .bytes)) kept))) in
+    let c : Called = poweredBy (w .bridge .dock) (readBy newest (written (settingsFrom (drop 2 (w .bytes)) kept))) in
     (c .returned ≡ 0) × (worldOf (c .image) memory .bytes ≡ w .bytes))

@@ -8,7 +8,7 @@ ghost use Rattle.rules.specs.Held.{world, byDefault, configuration};
 ghost use Rattle.rules.specs.Promise.{served};
 ghost use Rattle.rules.specs.declared.Stands.the-variants.{InRoom, InMemory};
 ghost use Rattle.rules.specs.Step.{BusReset, Control, Report, StatusRequest};
-ghost use Rattle.settings.specs.Store.{reads, newest};
+ghost use Rattle.settings.specs.Store.{readBy, newest};
 ghost use Rattle.image.specs.Image.{bytesOf, decode, heldOf, powered, put};
 ghost use Rattle.thrandue.specs.Calls.{called, returns, calls, CallTold, poweredBy, phaseNumber, haltNumber};
 
@@ -75,7 +75,7 @@ pub extern "C" fn thrandue_power_on_with_store(
     bus_powered: bool,
     store: &[u8],
 ) -> u32
-    ensures { λ r. ⌜ called r (now (image .exit)) [] [] ≡ poweredBy (record { «bus_powered» = «bus_powered» }) (reads newest (now (store .entry))) ⌝ }
+    ensures { λ r. ⌜ called r (now (image .exit)) [] [] ≡ poweredBy (record { «bus_powered» = «bus_powered» }) (readBy newest (now (store .entry))) ⌝ }
 {
     let dock = Dock {
         bus_powered: bus_powered,

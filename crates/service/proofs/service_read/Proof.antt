@@ -1,8 +1,8 @@
 -- `service::service_read` meets its contract.
 use mathlib.Core.Path.{sym, ap, _∙_}
 use Rattle.settings.specs.declared.Reading.{Reading}
-use Rattle.service.specs.Calls.{shows}
-use Rattle.service.proofs.Laws.{shown, hidden}
+use Rattle.service.specs.Calls.{showing}
+use Rattle.service.proofs.Laws.{shown, not-shown}
 use borrow.Author.Needs.{needs}
 use Rattle.service.proofs.service_read.Statement.{statement}
 use Rattle.service.proofs.service_read.Tie as tie
@@ -24,13 +24,13 @@ returns c =
     let reading = c .before .before .before .before .before .before .read in
     let before = c .before .before .before .before .before .before .before .before .args .shown .now in
     shown (reading .result) before (c .before .before .before .before .if1 .taken) (c .before .before .copy-arg .given .0 .1) (sym (slice-aggregate-copy (c .before))) (c .copy .ensures)
-    ∙ ap (λ (r : Reading). shows r before) (reading .ensures)
+    ∙ ap (λ (r : Reading). showing r before) (reading .ensures)
 
 returns-2 : tie.Need-returns-2
 returns-2 c =
     let reading = c .before .before .read in
     let before = c .before .before .before .before .args .shown .now in
-    hidden (reading .result) before (c .if1 .left) ∙ ap (λ (r : Reading). shows r before) (reading .ensures)
+    not-shown (reading .result) before (c .if1 .left) ∙ ap (λ (r : Reading). showing r before) (reading .ensures)
 
 pub service-read-spec : {M : Type 1} → statement M
 service-read-spec =

@@ -1,7 +1,7 @@
 -- `service::service_write` meets its contract.
 use mathlib.Core.Path.{ap, _∙_}
 use Rattle.settings.specs.declared.Settings.{Settings}
-use Rattle.service.specs.Calls.{writing}
+use Rattle.service.specs.Calls.{lays}
 use Rattle.service.proofs.Laws.{not-written, is-written}
 use borrow.Author.Needs.{needs}
 use Rattle.service.proofs.service_write.Statement.{statement}
@@ -23,7 +23,7 @@ returns : tie.Need-returns
 returns c =
     let s = c .before .before .before .before .before .settings-at in
     let room = c .before .before .before .before .before .before .before .args .room .now in
-    not-written (s .result) room (c .before .before .before .write .ensures) (c .if1 .taken) ∙ ap (λ (s : Settings). writing s room) (s .ensures)
+    not-written (s .result) room (c .before .before .before .write .ensures) (c .if1 .taken) ∙ ap (λ (s : Settings). lays s room) (s .ensures)
 
 cast-result-2 : tie.Need-cast-result-2
 cast-result-2 c = search needs
@@ -38,7 +38,7 @@ returns-2 : tie.Need-returns-2
 returns-2 c =
     let s = c .before .before .before .before .before .settings-at in
     let room = c .before .before .before .before .before .before .before .args .room .now in
-    is-written (s .result) room (c .before .before .before .write .ensures) (c .if1 .left) ∙ ap (λ (s : Settings). writing s room) (s .ensures)
+    is-written (s .result) room (c .before .before .before .write .ensures) (c .if1 .left) ∙ ap (λ (s : Settings). lays s room) (s .ensures)
 
 pub service-write-spec : {M : Type 1} → statement M
 service-write-spec =
