@@ -10,7 +10,7 @@ use Rattle.rules.specs.declared.Change.{Change}
 use Rattle.rules.specs.declared.Change.the-variants.{Nothing, Sets, Awaits, Resets, Drops, Begins, Finishes, Stops, Notes, Clears, Ends}
 use Rattle.rules.specs.declared.Direction.the-variants.{Out, In}
 use Rattle.rules.specs.Words.{one, over}
-use Rattle.rules.specs.Held.{Start, world, holding, powerOn, powerOnBytes}
+use Rattle.rules.specs.Held.{Start, world, holding, powerOn, powerOnBytes, startBytes}
 use Rattle.rules.specs.Changes.{made, drops}
 use Rattle.rules.specs.Bursts.{kept}
 use Rattle.rules.specs.Demands.Sizes.{Sized}
@@ -30,13 +30,13 @@ on-bytes false memory bytes = refl
 
 pub powers-on : PowersOn
 powers-on start memory =
-    let bytes : List ℕ = over powerOnBytes 2 (start .settings) in
+    let bytes : List ℕ = startBytes start in
     let b : Bool = start .dock .«bus_powered» in
     by-bytes 16 bytes (over-length powerOnBytes 2 (start .settings)) (On b memory) (on-bytes b memory bytes)
 
 pub powered-length : (start : Start) → length (powered start) ≡ 62
 powered-length start =
-    let bytes : List ℕ = over powerOnBytes 2 (start .settings) in
+    let bytes : List ℕ = startBytes start in
     length-append (bytes ++ replicate 13 0) (one (start .dock .«bus_powered») ∷ replicate 32 0)
     ∙ omega (arith, length-append bytes (replicate 13 0), over-length powerOnBytes 2 (start .settings))
 

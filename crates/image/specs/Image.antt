@@ -14,7 +14,7 @@ use Rattle.rules.specs.declared.Dock.{Dock}
 use Rattle.rules.specs.declared.Phase.{Phase}
 use Rattle.rules.specs.declared.Phase.the-variants.{Awaiting, Busy, StatusWaiting, Stopped}
 use Rattle.rules.specs.Words.{byte, long, bytes4, one, over}
-use Rattle.rules.specs.Held.{World, Start, world, holding, powerOnBytes, marks}
+use Rattle.rules.specs.Held.{World, Start, world, holding, startBytes, marks}
 use Rattle.rules.specs.Held.{powered as atPowerOn}
 use Rattle.rules.specs.Changes.{made, drops}
 use Rattle.rules.specs.Packets.{inward}
@@ -72,7 +72,7 @@ heldIn image = record { bytes = drop 30 image; count = length (heldOf image) }
 -- ---- written: at power-on, by each change, and by a burst. What an earlier phase left where this one has nothing stays, and so do bytes that are dropped.
 
 abbrev pub powered : Start → List ℕ
-powered start = over powerOnBytes 2 (start .settings) ++ replicate 13 0 ++ one (start .dock .«bus_powered») ∷ replicate 32 0
+powered start = startBytes start ++ replicate 13 0 ++ one (start .dock .«bus_powered») ∷ replicate 32 0
 
 abbrev pub numbered : ℕ → ℕ → List ℕ → List ℕ
 numbered tag amount image = over (over image 16 (bytes4 tag)) 20 (bytes4 amount)

@@ -76,8 +76,11 @@ abbrev pub byDefault : Dock → Start
 byDefault dock = starting dock defaults
 
 -- "They reach the bridge at power-on only."
+abbrev pub startBytes : Start → List ℕ
+startBytes start = over powerOnBytes 2 (start .settings)
+
 abbrev pub powered : Start → List ℕ → World
-powered start memory = world (powerOn (start .dock)) (over powerOnBytes 2 (start .settings)) memory
+powered start memory = world (powerOn (start .dock)) (startBytes start) memory
 
 -- ---- the bridge, changed in one respect
 
