@@ -16,14 +16,13 @@ use rules::Halts;
 use rules::Phase;
 use rules::Seen;
 use rules::addresses::StringIndex;
+use rules::fields::FIRST_SETTING;
 use rules::fields::FIRST_STRING;
 
 pub const IMAGE: usize = 62;
 
 // Behind the sixteen configuration bytes stand the tag, and L or the residue; a mark each for configured, bulk out halted and bulk in halted; the
 // phase; its direction, its status or its note; fixed at power-on, a mark for bus powered; and what is held: the bytes, and how many they are.
-const SETTINGS: usize = 0x02;
-
 const SIGNATURE: usize = 0x04;
 
 const TAG: usize = 16;
@@ -77,7 +76,7 @@ pub fn power_on_with(image: &mut [u8; IMAGE], dock: Dock, settings: &[u8; 14])
     ensures { λ u. ⌜ now (image .exit) ≡ powered (starting dock (now (settings .entry))) ⌝ }
 {
     power_on(image, dock);
-    lent::copy(image, SETTINGS, settings);
+    lent::copy(image, FIRST_SETTING, settings);
 }
 
 fn direction_from(detail: u8) -> Direction

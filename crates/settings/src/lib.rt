@@ -4,6 +4,7 @@ ghost use lib.ListN.{length};
 ghost use Rattle.rules.specs.Words.{first};
 ghost use Rattle.settings.specs.Store.{lengthFor, settingsOf, kindOf, payloadOf, recordChecks, hidden, refused as refusal, recordRead, readBy, newest, written, wrote, writtenIn};
 use rules::answers;
+use rules::fields::FIRST_SETTING;
 
 // The bytes for configuration addresses 2 to F, and one that is kept for the next edition.
 pub struct Settings {
@@ -27,9 +28,6 @@ const KEEPING: u16 = 0x0102;
 
 // What a written record takes.
 pub const RECORD: usize = 19;
-
-// The configuration address that the fourteen bytes begin at.
-const FIRST: usize = 2;
 
 fn length_of(kind: u16) -> u16
     ensures { λ r. ⌜ r ≡ lengthFor kind ⌝ }
@@ -65,7 +63,7 @@ fn defaults() -> Settings
     lent::copy(
         &mut bytes,
         0,
-        lent::part(&rules::power_on_bytes(), FIRST, 14),
+        lent::part(&rules::power_on_bytes(), FIRST_SETTING, 14),
     );
     Settings {
         bytes: bytes,
