@@ -6,6 +6,7 @@ use libc::STDIN_FILENO;
 use libc::STDOUT_FILENO;
 use rules::Bridge;
 use rules::Dock;
+use rules::PageSize;
 
 // The bridge, and of the block that was read the part from `start` to `end` that is still to be taken. `last`: the input has ended.
 struct Stream {
@@ -80,7 +81,10 @@ fn turned(
 // A proved loop has to end, and nothing says that a stream does: it counts down from a number that no run uses up.
 fn serve(input: &mut [u8], memory: &mut [u8], output: &mut [u8]) {
     let mut bytes = rules::power_on_bytes();
-    let dock = Dock { bus_powered: false };
+    let dock = Dock {
+        bus_powered: false,
+        page: PageSize::Of256,
+    };
     let mut s = Stream {
         bridge: Bridge::power_on(dock),
         start: 0,

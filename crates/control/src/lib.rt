@@ -143,9 +143,11 @@ fn seen(b: Bridge, bytes: &[u8; 16]) -> Seen
     ensures { λ r. ⌜ r ≡ seenOf (world b (now (bytes .entry)) []) ⌝ }
 {
     let dock = b.dock;
+    let page = dock.page;
     Seen {
         configured: b.configured,
-        dock: dock,
+        bus_powered: dock.bus_powered,
+        page: page,
         first_string: StringIndex(bytes[FIRST_STRING]),
     }
 }

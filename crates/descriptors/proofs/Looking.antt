@@ -7,7 +7,6 @@ use native.Mathlib.Omega.{arith}
 use lib.Dec.{eqb, ltb}
 use lib.ListN.{length}
 use borrow.Author.Tests.{lt-ltb, le-ltb}
-use Rattle.rules.specs.declared.Dock.{Dock}
 use Rattle.rules.specs.declared.addresses.Address.{Address}
 use Rattle.rules.specs.declared.addresses.StringIndex.{StringIndex}
 use Rattle.rules.specs.Words.{byte}
@@ -24,17 +23,17 @@ head-bytes type = go (eqb type 2)
     go true = (omega arith, omega arith)
     go false = (omega arith, omega arith)
 
-module _ (dock : Dock) (named : StringIndex) (memory : List ℕ) (value : ℕ) where
+module _ (powered : Bool) (named : StringIndex) (memory : List ℕ) (value : ℕ) where
   abbrev found : Found
-  found = looked dock named memory value
+  found = looked powered named memory value
 
   pub not-answered : answered (typeIn value) (indexIn value) ≡ false → No 18 ≡ found
   not-answered a = rw a
 
   -- with its place found, and the length of its head
-  module _ (a : answered (typeIn value) (indexIn value) ≡ true) {address : Address} {start head : ℕ} (placed : address ≡ placeIn dock named value)
+  module _ (a : answered (typeIn value) (indexIn value) ≡ true) {address : Address} {start head : ℕ} (placed : address ≡ placeIn powered named value)
       (starts : start ≡ numberOf address) (heads : head ≡ headOf (typeIn value)) where
-    from : start ≡ numberOf (placeIn dock named value)
+    from : start ≡ numberOf (placeIn powered named value)
     from = starts ∙ ap numberOf placed
 
     pub head-cut : length memory < start + head → No 19 ≡ found

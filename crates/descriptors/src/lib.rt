@@ -5,7 +5,6 @@ ghost use lib.ListN.{length};
 ghost use Rattle.lent.specs.Parts.{PartOf};
 ghost use Rattle.rules.specs.Descriptors.{numberOf, stringOf, placeOf, headOf, lengthAt, answered};
 ghost use Rattle.descriptors.specs.Looking.{looked};
-use rules::Dock;
 use rules::addresses::Address;
 use rules::addresses::StringIndex;
 use rules::answers::NO_DESCRIPTOR;
@@ -48,13 +47,13 @@ fn string_of(first: StringIndex, index: u8) -> StringIndex
     StringIndex(index)
 }
 
-fn place(dock: Dock, first: StringIndex, kind: u8, index: u8) -> Address
-    ensures { λ r. ⌜ r ≡ placeOf dock first kind index ⌝ }
+fn place(bus_powered: bool, first: StringIndex, kind: u8, index: u8) -> Address
+    ensures { λ r. ⌜ r ≡ placeOf «bus_powered» first kind index ⌝ }
 {
     match kind {
         DEVICE => Address(0x10),
         QUALIFIER => Address(0x22),
-        CONFIGURATION => if dock.bus_powered {
+        CONFIGURATION => if bus_powered {
             Address(0x2C)
         } else {
             Address(0x80)
@@ -81,15 +80,15 @@ fn length_at(kind: u8, memory: &[u8], at: usize) -> u16
 }
 
 // The descriptor of a type, in the high byte, and an index, in a memory that is all fitted: checks 18, 19, 18 and 19.
-pub fn look(dock: Dock, first: StringIndex, memory: &[u8], value: u16) -> Found
-    ensures { λ r. ⌜ r ≡ looked dock first (now (memory .entry)) value ⌝ }
+pub fn look(bus_powered: bool, first: StringIndex, memory: &[u8], value: u16) -> Found
+    ensures { λ r. ⌜ r ≡ looked «bus_powered» first (now (memory .entry)) value ⌝ }
 {
     let kind = (value / 256) as u8;
     let index = (value % 256) as u8;
     if !is_answered(kind, index) {
         return Found::No(NO_DESCRIPTOR);
     }
-    let address = place(dock, first, kind, index);
+    let address = place(bus_powered, first, kind, index);
     let at = address.number() as usize;
     let head = head_of(kind);
     if memory.len() < at + head {

@@ -9,35 +9,44 @@ use lib.Seq.{take-set-le}
 use Rattle.rules.specs.declared.Change.{Change}
 use Rattle.rules.specs.declared.Change.the-variants.{Nothing, Sets, Awaits, Resets, Drops, Begins, Finishes, Stops, Notes, Clears, Ends}
 use Rattle.rules.specs.declared.Direction.the-variants.{Out, In}
+use Rattle.rules.specs.declared.Dock.{Dock}
+use Rattle.rules.specs.declared.PageSize.{PageSize}
+use Rattle.rules.specs.declared.PageSize.the-variants.{Of32, Of64, Of128, Of256}
 use Rattle.rules.specs.Words.{one, over}
-use Rattle.rules.specs.Held.{Start, world, holding, powerOn, powerOnBytes, startBytes}
+use Rattle.rules.specs.Held.{Start, world, holding, docked, powerOn, powerOnBytes, startBytes}
 use Rattle.rules.specs.Changes.{made, drops}
 use Rattle.rules.specs.Bursts.{kept}
 use Rattle.rules.specs.Demands.Sizes.{Sized}
 use Rattle.rules.proofs.Rows.{over-length, four-bytes}
 use Rattle.rules.proofs.Demands.Boundary.{none-given}
 use Rattle.image.proofs.Rows.{row, row-set, by-bytes}
-use Rattle.image.specs.Image.{bytesOf, decode, heldOf, worldOf, powered, dropped, put, PowersOn, InStep}
+use Rattle.image.specs.Image.{bytesOf, decode, heldOf, worldOf, dockByte, powered, dropped, put, PowersOn, InStep}
 
 -- a dock's image at power-on, with any sixteen bytes, stands for its world
-abbrev On : Bool → List ℕ → List ℕ → Type 0
-On b memory bytes = worldOf (bytes ++ replicate 13 0 ++ one b ∷ replicate 32 0) memory ≡ world (powerOn (record { «bus_powered» = b })) bytes memory
+abbrev On : Dock → List ℕ → List ℕ → Type 0
+On dock memory bytes = worldOf (bytes ++ replicate 13 0 ++ dockByte dock ∷ replicate 32 0) memory ≡ world (powerOn dock) bytes memory
 
-on-bytes : (b : Bool) (memory bytes : List ℕ) → On b memory (row 0 16 bytes)
+on-bytes : (powered : Bool) (page : PageSize) (memory bytes : List ℕ) → On (docked powered page) memory (row 0 16 bytes)
 unfolding kept
-on-bytes true memory bytes = refl
-on-bytes false memory bytes = refl
+on-bytes true Of32 memory bytes = refl
+on-bytes true Of64 memory bytes = refl
+on-bytes true Of128 memory bytes = refl
+on-bytes true Of256 memory bytes = refl
+on-bytes false Of32 memory bytes = refl
+on-bytes false Of64 memory bytes = refl
+on-bytes false Of128 memory bytes = refl
+on-bytes false Of256 memory bytes = refl
 
 pub powers-on : PowersOn
 powers-on start memory =
     let bytes : List ℕ = startBytes start in
-    let b : Bool = start .dock .«bus_powered» in
-    by-bytes 16 bytes (over-length powerOnBytes 2 (start .settings)) (On b memory) (on-bytes b memory bytes)
+    by-bytes 16 bytes (over-length powerOnBytes 2 (start .settings)) (On (start .dock) memory)
+    (on-bytes (start .dock .«bus_powered») (start .dock .page) memory bytes)
 
 pub powered-length : (start : Start) → length (powered start) ≡ 62
 powered-length start =
     let bytes : List ℕ = startBytes start in
-    length-append (bytes ++ replicate 13 0) (one (start .dock .«bus_powered») ∷ replicate 32 0)
+    length-append (bytes ++ replicate 13 0) (dockByte (start .dock) ∷ replicate 32 0)
     ∙ omega (arith, length-append bytes (replicate 13 0), over-length powerOnBytes 2 (start .settings))
 
 -- ---- a change, put into an image whose configuration bytes were written

@@ -1,5 +1,5 @@
 -- The image of a bridge: sixty-two bytes that stand for its state and hold its configuration bytes. Any sixty-two bytes stand for some state.
-use Prim.Native.Nat.{ℕ, _+_, _%_, _≤_}
+use Prim.Native.Nat.{ℕ, _+_, _*_, _/_, _%_, _≤_}
 use mathlib.Core.Path.{_≡_}
 use mathlib.Core.Bool.{Bool, cond, not}
 use mathlib.Core.List.{List, [], _∷_, _++_}
@@ -11,10 +11,12 @@ use Rattle.rules.specs.declared.Change.the-variants.{Nothing, Sets, Awaits, Res
 use Rattle.rules.specs.declared.Direction.{Direction}
 use Rattle.rules.specs.declared.Direction.the-variants.{Out, In}
 use Rattle.rules.specs.declared.Dock.{Dock}
+use Rattle.rules.specs.declared.PageSize.{PageSize}
+use Rattle.rules.specs.declared.PageSize.the-variants.{Of32, Of64, Of128, Of256}
 use Rattle.rules.specs.declared.Phase.{Phase}
 use Rattle.rules.specs.declared.Phase.the-variants.{Awaiting, Busy, StatusWaiting, Stopped}
 use Rattle.rules.specs.Words.{byte, long, bytes4, one, over}
-use Rattle.rules.specs.Held.{World, Start, world, holding, startBytes, marks}
+use Rattle.rules.specs.Held.{World, Start, world, holding, docked, startBytes, marks}
 use Rattle.rules.specs.Held.{powered as atPowerOn}
 use Rattle.rules.specs.Changes.{made, drops}
 use Rattle.rules.specs.Packets.{inward}
@@ -24,8 +26,8 @@ use Rattle.image.specs.declared.Fragments.{Fragments}
 
 -- ---- read: at 0 the configuration bytes, at 16 the tag, at 20 L or the residue; at 24, 25 and 26 a mark each, set where it is not 0: configured, bulk
 -- out halted, bulk in halted; at 27 the phase, 0 awaiting, 1 busy, 2 status waiting, else stopped; at 28 its direction, its status, or whether a Mass
--- Storage Reset has come; at 29 a mark of what is fixed at power-on: bus powered; at 30 the bytes that are held, and at 61 how many of them, where more
--- than 31 says that it is too long
+-- Storage Reset has come; at 29 what is fixed at power-on: the page size in its two low bits, how often 32 is doubled, and bus powered in the next; at 30 the
+-- bytes that are held, and at 61 how many of them, where more than 31 says that it is too long
 
 abbrev pub bytesOf : List ℕ → List ℕ
 bytesOf image = take 16 image
@@ -46,8 +48,11 @@ phaseFrom kind detail tag amount =
     (cond (eqb kind 2) (StatusWaiting tag amount detail)
     (Stopped (isOdd detail))))
 
+abbrev pub pageFrom : ℕ → PageSize
+pageFrom code = cond (eqb code 0) Of32 (cond (eqb code 1) Of64 (cond (eqb code 2) Of128 Of256))
+
 abbrev pub dockOf : List ℕ → Dock
-dockOf image = record { «bus_powered» = isMarked (byte 29 image) }
+dockOf image = docked (isOdd (byte 29 image / 4)) (pageFrom (byte 29 image % 4))
 
 abbrev pub decode : List ℕ → Bridge
 decode image =
@@ -71,8 +76,17 @@ heldIn image = record { bytes = drop 30 image; count = length (heldOf image) }
 
 -- ---- written: at power-on, by each change, and by a burst. What an earlier phase left where this one has nothing stays, and so do bytes that are dropped.
 
+abbrev pub pageCode : PageSize → ℕ
+pageCode Of32 = 0
+pageCode Of64 = 1
+pageCode Of128 = 2
+pageCode Of256 = 3
+
+abbrev pub dockByte : Dock → ℕ
+dockByte dock = pageCode (dock .page) + 4 * one (dock .«bus_powered»)
+
 abbrev pub powered : Start → List ℕ
-powered start = startBytes start ++ replicate 13 0 ++ one (start .dock .«bus_powered») ∷ replicate 32 0
+powered start = startBytes start ++ replicate 13 0 ++ dockByte (start .dock) ∷ replicate 32 0
 
 abbrev pub numbered : ℕ → ℕ → List ℕ → List ℕ
 numbered tag amount image = over (over image 16 (bytes4 tag)) 20 (bytes4 amount)

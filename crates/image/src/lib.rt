@@ -6,13 +6,14 @@ ghost use Rattle.rules.specs.Words.{long, byte};
 ghost use Rattle.rules.specs.Held.{starting, byDefault};
 ghost use Rattle.rules.specs.Answers.{seenOf};
 ghost use Rattle.rules.specs.Packets.{signatureOf};
-ghost use Rattle.image.specs.Image.{bytesOf, isMarked, directionFrom, phaseFrom, dockOf, decode, worldOf, heldIn, powered, numbered, phased, marked, dropped, calm, put, added};
+ghost use Rattle.image.specs.Image.{bytesOf, isMarked, directionFrom, phaseFrom, pageCode, pageFrom, dockByte, dockOf, decode, worldOf, heldIn, powered, numbered, phased, marked, dropped, calm, put, added};
 use rules::Bridge;
 use rules::Change;
 use rules::CommandPacket;
 use rules::Direction;
 use rules::Dock;
 use rules::Halts;
+use rules::PageSize;
 use rules::Phase;
 use rules::Seen;
 use rules::addresses::StringIndex;
@@ -22,7 +23,7 @@ use rules::fields::FIRST_STRING;
 pub const IMAGE: usize = 62;
 
 // Behind the sixteen configuration bytes stand the tag, and L or the residue; a mark each for configured, bulk out halted and bulk in halted; the
-// phase; its direction, its status or its note; fixed at power-on, a mark for bus powered; and what is held: the bytes, and how many they are.
+// phase; its direction, its status or its note; what is fixed at power-on, in one byte; and what is held: the bytes, and how many they are.
 const SIGNATURE: usize = 0x04;
 
 const TAG: usize = 16;
@@ -39,7 +40,7 @@ const PHASE: usize = 27;
 
 const DETAIL: usize = 28;
 
-const BUS_POWERED: usize = 29;
+const DOCK: usize = 29;
 
 const HELD: usize = 30;
 
@@ -62,13 +63,43 @@ pub struct Fragments {
     pub count: usize,
 }
 
+fn page_code(page: PageSize) -> u8
+    ensures { λ r. ⌜ r ≡ pageCode page ⌝ }
+{
+    match page {
+        PageSize::Of32 => 0,
+        PageSize::Of64 => 1,
+        PageSize::Of128 => 2,
+        PageSize::Of256 => 3,
+    }
+}
+
+fn page_from(code: u8) -> PageSize
+    ensures { λ r. ⌜ r ≡ pageFrom code ⌝ }
+{
+    match code {
+        0 => PageSize::Of32,
+        1 => PageSize::Of64,
+        2 => PageSize::Of128,
+        _ => PageSize::Of256,
+    }
+}
+
+// What is fixed at power-on, as a byte: the page size below, and above it whether the dock is bus powered.
+fn dock_byte(dock: Dock) -> u8
+    ensures { λ r. ⌜ r ≡ dockByte dock ⌝ }
+{
+    let page = dock.page;
+    page_code(page) + 4 * dock.bus_powered as u8
+}
+
 // Whatever it held, an image is that of a dock's bridge at power-on.
 pub fn power_on(image: &mut [u8; IMAGE], dock: Dock)
     ensures { λ u. ⌜ now (image .exit) ≡ powered (byDefault dock) ⌝ }
 {
     *image = [0; IMAGE];
     lent::copy(image, 0, &rules::power_on_bytes());
-    image[BUS_POWERED] = dock.bus_powered as u8;
+    image[DOCK] = dock_byte(dock);
 }
 
 // .. with settings, the bytes for addresses 2 to F.
@@ -143,8 +174,10 @@ fn is_configured(image: &[u8; IMAGE]) -> bool
 fn dock_of(image: &[u8; IMAGE]) -> Dock
     ensures { λ r. ⌜ r ≡ dockOf (now (image .entry)) ⌝ }
 {
+    let fixed = image[DOCK];
     Dock {
-        bus_powered: image[BUS_POWERED] != 0,
+        bus_powered: fixed / 4 % 2 == 1,
+        page: page_from(fixed % 4),
     }
 }
 
@@ -152,9 +185,12 @@ fn dock_of(image: &[u8; IMAGE]) -> Dock
 pub fn seen(image: &[u8; IMAGE]) -> Seen
     ensures { λ r. ⌜ r ≡ seenOf (worldOf (now (image .entry)) []) ⌝ }
 {
+    let dock = dock_of(image);
+    let page = dock.page;
     Seen {
         configured: is_configured(image),
-        dock: dock_of(image),
+        bus_powered: dock.bus_powered,
+        page: page,
         first_string: StringIndex(image[FIRST_STRING]),
     }
 }

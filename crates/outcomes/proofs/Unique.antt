@@ -3,7 +3,8 @@ use mathlib.Core.Path.{refl, ap}
 use mathlib.Core.Bool.{false}
 use mathlib.Core.List.{[]}
 use Rattle.rules.specs.declared.Bridge.{Bridge}
-use Rattle.rules.specs.Held.{powerOn}
+use Rattle.rules.specs.declared.PageSize.the-variants.{Of256}
+use Rattle.rules.specs.Held.{docked, powerOn}
 use Rattle.rules.specs.Promise.{Left}
 use Rattle.rules.specs.OneOutcome.{OneOutcome}
 use Rattle.rules.proofs.Unique.{only}
@@ -21,7 +22,7 @@ outcomeOf l = outcome (l .answer) (l .count) (l .change)
 
 pub «bus_reset» : OneOutcome BusReset.Kinds.ps BusReset.Kinds.r BusReset.Reads.Post
 «bus_reset» κs a r r' left left' p q =
-    let any : Bridge = powerOn (record { «bus_powered» = false }) in
+    let any : Bridge = powerOn (docked false Of256) in
     (ap outcomeOf (only (p any [] []) (q any [] [])), refl)
 
 pub refused : OneOutcome Refused.Kinds.ps Refused.Kinds.r Refused.Reads.Post

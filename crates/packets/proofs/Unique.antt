@@ -4,7 +4,8 @@ use mathlib.Core.Bool.{true, false}
 use mathlib.Core.List.{List, [], _∷_}
 use Prim.Native.Nat.{ℕ}
 use Rattle.rules.specs.declared.Bridge.{Bridge}
-use Rattle.rules.specs.Held.{powerOn, configuring}
+use Rattle.rules.specs.declared.PageSize.the-variants.{Of256}
+use Rattle.rules.specs.Held.{docked, powerOn, configuring}
 use Rattle.rules.specs.Promise.{Left}
 use Rattle.rules.specs.OneOutcome.{OneOutcome}
 use Rattle.rules.proofs.Unique.{only}
@@ -20,7 +21,7 @@ unawaited κs a r r' left left' p q = (only p q, refl)
 -- of a bridge that awaits a packet, bytes that hold the signature and no memory
 pub awaited : OneOutcome Awaited.Kinds.ps Awaited.Kinds.r Awaited.Reads.Post
 awaited κs a r r' left left' p q =
-    let b : Bridge = configuring true (powerOn (record { «bus_powered» = false })) in
+    let b : Bridge = configuring true (powerOn (docked false Of256)) in
     let awaits : Awaits b = record { configured = refl; runs = refl; awaits = refl } in
     let held : List ℕ = 0 ∷ 0 ∷ 0 ∷ 0 ∷ a .0 ∷ [] in
     let same = only (p b awaits held [] refl) (q b awaits held [] refl) in

@@ -14,12 +14,12 @@ at-most start = go (ltb start 16) refl
     go true e = le-leb start 15 (omega (arith, ltb-true))
     go false e = lt-leb start 15 (omega (arith, ltb-false))
 
-at-least : (start : ℕ) → leb 2 start ≡ not (ltb start 2)
-at-least start = go (ltb start 2) refl
+pub at-least : (least n : ℕ) → leb least n ≡ not (ltb n least)
+at-least least n = go (ltb n least) refl
   where
-    go : (t : Bool) → ltb start 2 ≡ t → leb 2 start ≡ not t
-    go true e = lt-leb 2 start (omega (arith, ltb-true))
-    go false e = le-leb 2 start (omega (arith, ltb-false))
+    go : (t : Bool) → ltb n least ≡ t → leb least n ≡ not t
+    go true e = lt-leb least n (omega (arith, ltb-true))
+    go false e = le-leb least n (omega (arith, ltb-false))
 
 pub not-not : (t : Bool) → not (not t) ≡ t
 not-not true = refl
@@ -48,5 +48,5 @@ module _ (m start n : ℕ) where
           ≡ ((ltb start (cond t m 16) && leb (start + n) (cond t m 16)) && not (writes && not t && ltb start 2))
       go true true = all _
       go false true = all _
-      go true false = rw (at-least, at-most) (last (ltb start 2) (ltb start 16) (leb (start + n) 16))
+      go true false = rw (at-least 2 start, at-most) (last (ltb start 2) (ltb start 16) (leb (start + n) 16))
       go false false = rw (at-most, le-leb 0 start (omega arith)) (all _)

@@ -25,13 +25,13 @@ use Rattle.requests.specs.Judgements.{foundBy, describedChecks}
 
 module _ (seen : Seen) (memory : List ℕ) (s : Setup) (host : ℕ) where
   abbrev checks : List Check
-  checks = descriptorChecks true (seen .dock) (seen .«first_string») (fitted memory) (s .value)
+  checks = descriptorChecks true (seen .«bus_powered») (seen .«first_string») (fitted memory) (s .value)
 
   abbrev place : Address
-  place = placeIn (seen .dock) (seen .«first_string») (s .value)
+  place = placeIn (seen .«bus_powered») (seen .«first_string») (s .value)
 
   abbrev long : ℕ
-  long = lengthIn (seen .dock) (seen .«first_string») (fitted memory) (s .value)
+  long = lengthIn (seen .«bus_powered») (seen .«first_string») (fitted memory) (s .value)
 
   abbrev end : List Check
   end = 2 if not (eqb host 0) ∷ []
@@ -42,7 +42,7 @@ module _ (seen : Seen) (memory : List ℕ) (s : Setup) (host : ℕ) where
   pub none-fitted : sizeOf memory ≡ 0 → Refused 7 ≡ verdict
   none-fitted h = rw (eq-eqb (sizeOf memory) 0 h)
 
-  module _ (some : sizeOf memory ≡ 0 → ⊥) {found : Found} (by : found ≡ looked (seen .dock) (seen .«first_string») (fitted memory) (s .value)) where
+  module _ (some : sizeOf memory ≡ 0 → ⊥) {found : Found} (by : found ≡ looked (seen .«bus_powered») (seen .«first_string») (fitted memory) (s .value)) where
     -- what the search says decides, and where it says nothing against it the data do
     decided : verdict ≡ foundBy seen memory s (cond (eqb (first checks) 0) (first end) (first checks))
     decided = rw (ne-eqb (sizeOf memory) 0 some) (ap (foundBy seen memory s) (first-append checks end refl))

@@ -22,14 +22,14 @@ judgedBy r s answer = cond (done answer) (Granted r s) (Refused answer)
 abbrev pub describedChecks : Seen → List ℕ → Setup → ℕ → List Check
 describedChecks seen memory s host =
     7 if eqb (sizeOf memory) 0 ∷
-    descriptorChecks true (seen .dock) (seen .«first_string») (fitted memory) (s .value)
+    descriptorChecks true (seen .«bus_powered») (seen .«first_string») (fitted memory) (s .value)
     ++ 2 if not (eqb host 0) ∷ []
 
 abbrev pub foundBy : Seen → List ℕ → Setup → ℕ → Judgement
 foundBy seen memory s answer =
     cond (done answer)
-    (Found (placeIn (seen .dock) (seen .«first_string») (s .value))
-    (length (told (seen .dock) (seen .«first_string») (fitted memory) (s .value) (s .length))))
+    (Found (placeIn (seen .«bus_powered») (seen .«first_string») (s .value))
+    (length (told (seen .«bus_powered») (seen .«first_string») (fitted memory) (s .value) (s .length))))
     (Refused answer)
 
 -- nothing is granted that is not in the table

@@ -8,9 +8,10 @@ ghost use lib.ListN.{length};
 ghost use Rattle.requests.specs.Judgements.{judged, judgedBy, foundBy, describedChecks};
 ghost use Rattle.rules.specs.Words.{_if_, first};
 ghost use Rattle.rules.specs.Requests.{setupOf, requestOf, needsConfiguration, onePage};
-ghost use Rattle.rules.specs.Held.{sizeFor, bulkOut, bulkIn};
+ghost use Rattle.rules.specs.Held.{sizeFor, pageBytes, bulkOut, bulkIn};
 ghost use Rattle.rules.specs.Answers.{programChecks, placeChecks, dataChecks, namedChecks, requestAnswer};
 use descriptors::Found;
+use rules::PageSize;
 use rules::Request;
 use rules::Seen;
 use rules::Setup;
@@ -37,8 +38,6 @@ pub enum Judgement {
     Granted(Request, Setup),
     Found(Address, u16),
 }
-
-const PAGE: u32 = 256;
 
 const MEMORY_MOST: usize = 2048;
 
@@ -104,37 +103,34 @@ fn is_inside(size: usize, start: u16, n: u16) -> bool
     (from < size) & (from + n as usize <= size)
 }
 
-// The first and the last byte lie in different pages. With n = 0 no page is crossed.
-fn crosses_page(start: u16, n: u16) -> bool
-    ensures { λ r. ⌜ r ≡ not (onePage start n) ⌝ }
+// The first and the last byte lie in different pages: what its page has before the start, and n bytes, are more than a page. With n = 0 no page is
+// crossed. The compiler sees a power of two in each size, and divides by none.
+fn crosses_page(page: PageSize, start: u16, n: u16) -> bool
+    ensures { λ r. ⌜ r ≡ not (onePage (pageBytes page) start n) ⌝ }
 {
-    if n == 0 {
-        return false;
-    }
-    let from = start as u32;
-    let last = from + n as u32 - 1;
-    from / PAGE != last / PAGE
+    let size = page.bytes() as u32;
+    start as u32 % size + n as u32 > size
 }
 
 // Checks 9 and 10, of a memory write.
-fn program_answer(start: u16, n: u16) -> u8
-    ensures { λ a. ⌜ a ≡ first (programChecks true start n) ⌝ }
+fn program_answer(page: PageSize, start: u16, n: u16) -> u8
+    ensures { λ a. ⌜ a ≡ first (programChecks (pageBytes page) true start n) ⌝ }
 {
     if start % 8 != 0 {
         return NOT_AT_EIGHT;
     }
-    if crosses_page(start, n) {
+    if crosses_page(page, start, n) {
         return CROSSES_PAGE;
     }
     DONE
 }
 
 // Checks 8 to 10, of a write inside its place.
-fn write_answer(in_memory: bool, start: u16, n: u16) -> u8
-    ensures { λ a. ⌜ a ≡ first (8 if (not in_memory && ltb start 2) ∷ programChecks in_memory start n) ⌝ }
+fn write_answer(page: PageSize, in_memory: bool, start: u16, n: u16) -> u8
+    ensures { λ a. ⌜ a ≡ first (8 if (not in_memory && ltb start 2) ∷ programChecks (pageBytes page) in_memory start n) ⌝ }
 {
     if in_memory {
-        return program_answer(start, n);
+        return program_answer(page, start, n);
     }
     if start < FIRST_WRITABLE {
         return OUTSIDE;
@@ -143,8 +139,8 @@ fn write_answer(in_memory: bool, start: u16, n: u16) -> u8
 }
 
 // Checks 6 to 10, of a request that has a place.
-fn address_answer(writes: bool, size: usize, place: u16, start: u16, n: u16) -> u8
-    ensures { λ a. ⌜ a ≡ first (placeChecks false true writes size place start n) ⌝ }
+fn address_answer(page: PageSize, writes: bool, size: usize, place: u16, start: u16, n: u16) -> u8
+    ensures { λ a. ⌜ a ≡ first (placeChecks (pageBytes page) false true writes size place start n) ⌝ }
 {
     let in_memory = place == MEMORY;
     if !((place == CONFIGURATION_BYTES) | in_memory) {
@@ -158,7 +154,7 @@ fn address_answer(writes: bool, size: usize, place: u16, start: u16, n: u16) -> 
         return OUTSIDE;
     }
     if writes {
-        return write_answer(in_memory, start, n);
+        return write_answer(page, in_memory, start, n);
     }
     DONE
 }
@@ -212,10 +208,18 @@ fn fixed(r: Request, fit: bool, n: u16, s: Setup, host: usize, room: usize) -> J
 }
 
 // A request that has a place. `memory` is the length of the memory part.
-fn placed(r: Request, writes: bool, memory: usize, s: Setup, host: usize, room: usize) -> Judgement
-    ensures { λ j. ⌜ j ≡ judgedBy r s (first (placeChecks false true writes (sizeFor memory) (s .value) (s .index) (s .length) ++ dataChecks false s host room)) ⌝ }
+fn placed(
+    r: Request,
+    page: PageSize,
+    writes: bool,
+    memory: usize,
+    s: Setup,
+    host: usize,
+    room: usize,
+) -> Judgement
+    ensures { λ j. ⌜ j ≡ judgedBy r s (first (placeChecks (pageBytes page) false true writes (sizeFor memory) (s .value) (s .index) (s .length) ++ dataChecks false s host room)) ⌝ }
 {
-    let answer = address_answer(writes, size_of(memory), s.value, s.index, s.length);
+    let answer = address_answer(page, writes, size_of(memory), s.value, s.index, s.length);
     if answer != DONE {
         return Judgement::Refused(answer);
     }
@@ -237,9 +241,8 @@ fn described(seen: Seen, memory: &[u8], s: Setup, host: usize) -> Judgement
         return Judgement::Refused(NONE_FITTED);
     }
     let fitted = &memory[..size];
-    let dock = seen.dock;
     let first = seen.first_string;
-    let found = descriptors::look(dock, first, fitted, s.value);
+    let found = descriptors::look(seen.bus_powered, first, fitted, s.value);
     match found {
         Found::No(answer) => Judgement::Refused(answer),
         Found::At(at, n) => {
@@ -279,6 +282,7 @@ const GET_DESCRIPTOR: u16 = 0x80 + 256 * 0x06;
 fn looked_up(seen: Seen, memory: &[u8], s: Setup, host: usize, room: usize) -> Judgement
     ensures { λ j. ⌜ j ≡ judged seen (now (memory .entry)) (first (namedChecks seen (now (memory .entry)) s (requestOf s) host room)) s ⌝ }
 {
+    let page = seen.page;
     match lent::word(s.kind, s.code) {
         SET_CONFIGURATION => fixed(
             Request::SetConfiguration,
@@ -293,8 +297,24 @@ fn looked_up(seen: Seen, memory: &[u8], s: Setup, host: usize, room: usize) -> J
         GET_STATUS => fixed(Request::GetStatus, is_pipe(s), 2, s, host, room),
         GET_MAX_LUN => fixed(Request::GetMaxLun, is_zero(s), 1, s, host, room),
         MASS_STORAGE_RESET => fixed(Request::MassStorageReset, is_zero(s), 0, s, host, room),
-        LOAD_CONFIG_DATA => placed(Request::LoadConfigData, true, memory.len(), s, host, room),
-        READ_CONFIG_DATA => placed(Request::ReadConfigData, false, memory.len(), s, host, room),
+        LOAD_CONFIG_DATA => placed(
+            Request::LoadConfigData,
+            page,
+            true,
+            memory.len(),
+            s,
+            host,
+            room,
+        ),
+        READ_CONFIG_DATA => placed(
+            Request::ReadConfigData,
+            page,
+            false,
+            memory.len(),
+            s,
+            host,
+            room,
+        ),
         SOFT_RESET => fixed(Request::SoftReset, is_zero(s), 0, s, host, room),
         BOGUS_READ => granted(Request::BogusRead, s, host, room),
         GET_DESCRIPTOR => described(seen, memory, s, host),

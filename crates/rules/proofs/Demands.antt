@@ -17,6 +17,7 @@ pub mod Stored
 pub mod Statuses
 pub mod Turns
 pub mod Settings
+pub mod Pages
 pub mod Mends
 pub mod Numbers
 pub mod Descriptors

@@ -1,5 +1,6 @@
 pub mod Checks
 pub mod Rows
+pub mod Pages
 pub mod Changes
 pub mod Bursts
 pub mod Promises

@@ -77,7 +77,7 @@ module _ (w : World) (setup host room : List ℕ) where
   -- "The reply is a part of the lent memory itself, not a copy."
   pub control-found : requestOf (setupOf setup) ≡ Describes → controlAnswer ≡ 0
       → (let s : Setup = setupOf setup in
-      leftAt (InMemory (placeIn (w .bridge .dock) (firstString (w .bytes)) (s .value))) 0 (length (replyTo Describes s w)) Nothing (w .bytes) (w .memory) room
+      leftAt (InMemory (placeIn (w .bridge .dock .«bus_powered») (firstString (w .bytes)) (s .value))) 0 (length (replyTo Describes s w)) Nothing (w .bytes) (w .memory) room
       ≡ leaves w (Control setup host) room)
   unfolding step change
   control-found e a = rw (a, e)

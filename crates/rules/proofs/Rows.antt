@@ -1,6 +1,7 @@
 -- Laws of a row with another over it: how long it is, where all of it fits at the front, and how a loop puts it there; of a part of a row's front; and of
 -- numbers and rows byte by byte.
 use mathlib.Core.Path.{_≡_, refl, sym, ap, _∙_}
+use mathlib.Core.Logic.{_⊎_, inl, inr}
 use mathlib.Core.List.{List, [], _∷_, _++_, append-nil}
 use Prim.Native.Nat.{ℕ, zero, suc, _+_, _-_, _*_, _/_, _%_, _^_, _<_, _≤_, min}
 use native.Mathlib.Nat.{zero-add, suc-add, div-div-eq-div-mul}
@@ -16,6 +17,19 @@ over-length [] zero (x ∷ xs) = refl
 over-length (r ∷ row) zero (x ∷ xs) = ap suc (over-length row zero xs)
 over-length [] (suc at) xs = refl
 over-length (r ∷ row) (suc at) xs = ap suc (over-length row at xs)
+
+-- what lies before it or behind it is as it was
+pub over-outside : (row : List ℕ) (at : ℕ) (xs : List ℕ) (k : ℕ) → (k < at) ⊎ (at + length xs ≤ k) → byte k (over row at xs) ≡ byte k row
+unfolding over
+over-outside row zero [] k h = refl
+over-outside [] zero (x ∷ xs) k h = refl
+over-outside (r ∷ row) zero (x ∷ xs) k (inl l) = absurd (omega arith)
+over-outside (r ∷ row) zero (x ∷ xs) zero (inr l) = absurd (omega arith)
+over-outside (r ∷ row) zero (x ∷ xs) (suc k) (inr l) = over-outside row zero xs k (inr (omega arith))
+over-outside [] (suc at) xs k h = refl
+over-outside (r ∷ row) (suc at) xs zero h = refl
+over-outside (r ∷ row) (suc at) xs (suc k) (inl l) = over-outside row at xs k (inl (omega arith))
+over-outside (r ∷ row) (suc at) xs (suc k) (inr l) = over-outside row at xs k (inr (omega arith))
 
 -- what fits at the front is laid there
 pub over-laid : (room out : List ℕ) → length out ≤ length room → over room 0 out ≡ laid out room

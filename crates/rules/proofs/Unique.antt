@@ -5,6 +5,8 @@ use Rattle.rules.proofs.Bridge.«power_on» as BridgePowerOn
 use Rattle.rules.proofs.«power_on_bytes» as PowerOnBytes
 use Rattle.rules.proofs.Direction.number as DirectionNumber
 use Rattle.rules.proofs.Direction.«is_in» as DirectionIsIn
+use Rattle.rules.proofs.PageSize.of as PageSizeOf
+use Rattle.rules.proofs.PageSize.bytes as PageSizeBytes
 use Rattle.rules.proofs.addresses.StringIndex.address as StringIndexAddress
 use Rattle.rules.proofs.addresses.Address.number as AddressNumber
 
@@ -29,3 +31,9 @@ pub «StringIndex::address» : OneOutcome StringIndexAddress.Kinds.ps StringInde
 
 pub «Address::number» : OneOutcome AddressNumber.Kinds.ps AddressNumber.Kinds.r AddressNumber.Reads.Post
 «Address::number» κs a r r' left left' p q = (only p q, refl)
+
+pub «PageSize::of» : OneOutcome PageSizeOf.Kinds.ps PageSizeOf.Kinds.r PageSizeOf.Reads.Post
+«PageSize::of» κs a r r' left left' p q = (only p q, refl)
+
+pub «PageSize::bytes» : OneOutcome PageSizeBytes.Kinds.ps PageSizeBytes.Kinds.r PageSizeBytes.Reads.Post
+«PageSize::bytes» κs a r r' left left' p q = (only p q, refl)

@@ -9,32 +9,32 @@ use Rattle.rules.specs.declared.Request.the-variants.{LoadConfigData}
 use Rattle.rules.specs.declared.Seen.{Seen}
 use Rattle.rules.specs.declared.Setup.{Setup}
 use Rattle.rules.specs.Words.{Check, _if_, first}
-use Rattle.rules.specs.Held.{World, sizeOf, fitted, isAwaiting, isBusy, isStatusWaiting, isStopped}
+use Rattle.rules.specs.Held.{World, pageBytes, sizeOf, fitted, isAwaiting, isBusy, isStatusWaiting, isStopped}
 use Rattle.rules.specs.Descriptors.{firstString, descriptorChecks}
 use Rattle.rules.specs.Requests.{Named, setupOf, requestOf, isA, isUnknown, describes, hasPlace, needsConfiguration, inBytes, inMemory, address, atEight, onePage, sent, returned}
 use Rattle.rules.specs.Packets.{statusLayout, commandOf, valid, meaningful}
 use Rattle.rules.specs.Reports.{malformed}
 
--- those of a memory write
-abbrev pub programChecks : Bool → ℕ → ℕ → List Check
-programChecks programs start n =
+-- those of a memory write: "Answer 10 .. use[s] the size in force"
+abbrev pub programChecks : ℕ → Bool → ℕ → ℕ → List Check
+programChecks page programs start n =
     9 if (programs && not (atEight start)) ∷
-    10 if (programs && not (onePage start n)) ∷
+    10 if (programs && not (onePage page start n)) ∷
     []
 
 -- those of the two requests that have a place, of which one writes; 7 is that of a request for a descriptor too
-abbrev pub placeChecks : Bool → Bool → Bool → ℕ → ℕ → ℕ → ℕ → List Check
-placeChecks finds moves writes m place start n =
+abbrev pub placeChecks : ℕ → Bool → Bool → Bool → ℕ → ℕ → ℕ → ℕ → List Check
+placeChecks page finds moves writes m place start n =
     6 if (moves && not (inBytes place || inMemory place)) ∷
     7 if ((finds || moves && inMemory place) && eqb m 0) ∷
     8 if (moves && not (address writes m place start n)) ∷
-    programChecks (writes && inMemory place) start n
+    programChecks page (writes && inMemory place) start n
 
 -- those that go by the request
-abbrev pub tableChecks : ℕ → Setup → Named → List Check
-tableChecks m s r =
+abbrev pub tableChecks : ℕ → ℕ → Setup → Named → List Check
+tableChecks page m s r =
     5 if isUnknown r ∷
-    placeChecks (describes r) (hasPlace r) (isA LoadConfigData r) m (s .value) (s .index) (s .length)
+    placeChecks page (describes r) (hasPlace r) (isA LoadConfigData r) m (s .value) (s .index) (s .length)
 
 -- those of the data; of a descriptor "3 isn't given"
 abbrev pub dataChecks : Bool → Setup → ℕ → ℕ → List Check
@@ -46,8 +46,8 @@ dataChecks found s host room =
 -- those that go by the request, and those of the data behind them
 abbrev pub namedChecks : Seen → List ℕ → Setup → Named → ℕ → ℕ → List Check
 namedChecks seen memory s r host room =
-    tableChecks (sizeOf memory) s r
-    ++ descriptorChecks (describes r) (seen .dock) (seen .«first_string») (fitted memory) (s .value)
+    tableChecks (pageBytes (seen .page)) (sizeOf memory) s r
+    ++ descriptorChecks (describes r) (seen .«bus_powered») (seen .«first_string») (fitted memory) (s .value)
     ++ dataChecks (describes r) s host room
 
 -- "Order for requests: 1, 4, 5, 6, 7, 8, 9, 10, 2, 3." For descriptors 18, 19, 18, 19 "after 5 and 7 .. then 2".
@@ -63,7 +63,13 @@ requestAnswer seen memory setup host room =
     first (requestChecks seen memory (length setup) (setupOf setup) (requestOf (setupOf setup)) host room)
 
 abbrev pub seenOf : World → Seen
-seenOf w = record { configured = w .bridge .configured; dock = w .bridge .dock; «first_string» = firstString (w .bytes) }
+seenOf w =
+    record {
+      configured = w .bridge .configured;
+      «bus_powered» = w .bridge .dock .«bus_powered»;
+      page = w .bridge .dock .page;
+      «first_string» = firstString (w .bytes);
+    }
 
 -- "For packets: 4, 11, 16, 13, 14, 15." Those of a bridge that awaits none, whatever the packet is;
 abbrev pub unawaitedChecks : Bridge → List Check

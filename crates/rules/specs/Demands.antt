@@ -11,6 +11,7 @@ pub mod ShutOut
 pub mod Makers
 pub mod Coherence
 pub mod Settings
+pub mod Pages
 pub mod Mends
 pub mod Numbers
 pub mod Descriptors

@@ -4,7 +4,6 @@ use mathlib.Core.Bool.{Bool, cond, not, _&&_, _||_}
 use mathlib.Core.List.{List, [], _∷_}
 use lib.ListN.{length, take, drop}
 use lib.Dec.{eqb, ltb}
-use Rattle.rules.specs.declared.Dock.{Dock}
 use Rattle.rules.specs.declared.addresses.Address.{Address}
 use Rattle.rules.specs.declared.addresses.StringIndex.{StringIndex}
 use Rattle.rules.specs.Words.{Check, _if_, byte, word}
@@ -41,11 +40,11 @@ stringOf first i = cond (eqb i 0) first (index i)
 -- ---- where a descriptor stands, and how long it is
 
 -- "device at 0x10, qualifier at 0x22, configuration at 0x2C when bus powered and 0x80 otherwise, strings at twice their index"
-unfoldable pub placeOf : Dock → StringIndex → ℕ → ℕ → Address
-placeOf dock first type i =
+unfoldable pub placeOf : Bool → StringIndex → ℕ → ℕ → Address
+placeOf powered first type i =
     cond (eqb type 1) (at 0x10)
     (cond (eqb type 6) (at 0x22)
-    (cond (eqb type 2) (cond (dock .«bus_powered») (at 0x2C) (at 0x80))
+    (cond (eqb type 2) (cond powered (at 0x2C) (at 0x80))
     (addressOf (stringOf first i))))
 
 -- "the head (4 bytes for type 2, else 2)"
@@ -74,16 +73,16 @@ findChecks asks type i start memory =
 
 -- ---- by wValue
 
-abbrev pub placeIn : Dock → StringIndex → ℕ → Address
-placeIn dock first value = placeOf dock first (typeIn value) (indexIn value)
+abbrev pub placeIn : Bool → StringIndex → ℕ → Address
+placeIn powered first value = placeOf powered first (typeIn value) (indexIn value)
 
-abbrev pub descriptorChecks : Bool → Dock → StringIndex → List ℕ → ℕ → List Check
-descriptorChecks asks dock first memory value =
-    findChecks asks (typeIn value) (indexIn value) (numberOf (placeIn dock first value)) memory
+abbrev pub descriptorChecks : Bool → Bool → StringIndex → List ℕ → ℕ → List Check
+descriptorChecks asks powered first memory value =
+    findChecks asks (typeIn value) (indexIn value) (numberOf (placeIn powered first value)) memory
 
-abbrev pub lengthIn : Dock → StringIndex → List ℕ → ℕ → ℕ
-lengthIn dock first memory value = lengthAt (typeIn value) memory (numberOf (placeIn dock first value))
+abbrev pub lengthIn : Bool → StringIndex → List ℕ → ℕ → ℕ
+lengthIn powered first memory value = lengthAt (typeIn value) memory (numberOf (placeIn powered first value))
 
 -- "The reply is a part of the lent memory itself, not a copy: the descriptor's length .., cut to wLength."
-abbrev pub told : Dock → StringIndex → List ℕ → ℕ → ℕ → List ℕ
-told dock first memory value n = take (min (lengthIn dock first memory value) n) (drop (numberOf (placeIn dock first value)) memory)
+abbrev pub told : Bool → StringIndex → List ℕ → ℕ → ℕ → List ℕ
+told powered first memory value n = take (min (lengthIn powered first memory value) n) (drop (numberOf (placeIn powered first value)) memory)

@@ -3,11 +3,14 @@ use Prim.Native.Nat.{ℕ, min}
 use mathlib.Core.Bool.{Bool, true, false, cond, _||_}
 use mathlib.Core.List.{List, [], _∷_}
 use lib.ListN.{length, take, drop}
+use lib.Dec.{eqb}
 use Rattle.rules.specs.declared.Bridge.{Bridge}
 use Rattle.rules.specs.declared.Direction.{Direction}
 use Rattle.rules.specs.declared.Dock.{Dock}
 use Rattle.rules.specs.declared.Direction.the-variants.{Out, In}
 use Rattle.rules.specs.declared.Halts.{Halts}
+use Rattle.rules.specs.declared.PageSize.{PageSize}
+use Rattle.rules.specs.declared.PageSize.the-variants.{Of32, Of64, Of128, Of256}
 use Rattle.rules.specs.declared.Phase.{Phase}
 use Rattle.rules.specs.declared.Phase.the-variants.{Awaiting, Busy, StatusWaiting, Stopped}
 use Rattle.rules.specs.Words.{over}
@@ -42,6 +45,17 @@ sizeOf memory = sizeFor (length memory)
 abbrev pub fitted : List ℕ → List ℕ
 fitted memory = take (sizeOf memory) memory
 
+-- "parts with pages of 32, 64, 128 or 256 bytes"
+abbrev pub pageBytes : PageSize → ℕ
+pageBytes Of32 = 32
+pageBytes Of64 = 64
+pageBytes Of128 = 128
+pageBytes Of256 = 256
+
+-- "It is set at power-on; another number is taken as 32, the safe one."
+unfoldable pub pageOf : ℕ → PageSize
+pageOf n = cond (eqb n 64) Of64 (cond (eqb n 128) Of128 (cond (eqb n 256) Of256 Of32))
+
 -- "A halt mark for bulk out (0x01) and one for bulk in (0x82)."
 abbrev pub bulkOut : ℕ
 bulkOut = 0x01
@@ -52,7 +66,11 @@ bulkIn = 0x82
 abbrev pub marks : Bool → Bool → Halts
 marks out back = record { outward = out; inward = back }
 
--- "At power-on: configuration 0, awaiting, no halts." What is fixed then is told of the dock.
+-- What is fixed at power-on, told of the dock: whether it is bus powered, and its page size.
+abbrev pub docked : Bool → PageSize → Dock
+docked powered page = record { «bus_powered» = powered; page = page }
+
+-- "At power-on: configuration 0, awaiting, no halts."
 abbrev pub powerOn : Dock → Bridge
 powerOn dock = record { dock = dock; configured = false; phase = Awaiting; halts = marks false false }
 

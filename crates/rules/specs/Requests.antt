@@ -134,9 +134,10 @@ address writes m place start n =
 abbrev pub atEight : ℕ → Bool
 atEight start = eqb (start % 8) 0
 
--- "and its first and last byte lie in the same page: equal quotients by 256". "With n = 0 .. no page is crossed."
-unfoldable pub onePage : ℕ → ℕ → Bool
-onePage start n = eqb n 0 || eqb (start / 256) ((start + n - 1) / 256)
+-- "and its first and last byte lie in the same page: equal quotients by" its size. "The page rule takes the page size as a number." "With n = 0 .. no page
+-- is crossed."
+unfoldable pub onePage : ℕ → ℕ → ℕ → Bool
+onePage page start n = eqb n 0 || eqb (start / page) ((start + n - 1) / page)
 
 -- ---- data and reply
 
@@ -166,13 +167,13 @@ replyTo (Known LoadConfigData) s w = []
 replyTo (Known ReadConfigData) s w = take (s .length) (drop (s .index) (storeOf (s .value) w))
 replyTo (Known SoftReset) s w = []
 replyTo (Known BogusRead) s w = replicate (s .length) 0
-replyTo Describes s w = told (w .bridge .dock) (firstString (w .bytes)) (fitted (w .memory)) (s .value) (s .length)
+replyTo Describes s w = told (w .bridge .dock .«bus_powered») (firstString (w .bytes)) (fitted (w .memory)) (s .value) (s .length)
 replyTo Unknown s w = []
 
 -- .. where it stands: a descriptor "is a part of the lent memory itself, not a copy"
 abbrev pub standing : Named → Setup → World → Stands
 standing (Known r) s w = InRoom
-standing Describes s w = InMemory (placeIn (w .bridge .dock) (firstString (w .bytes)) (s .value))
+standing Describes s w = InMemory (placeIn (w .bridge .dock .«bus_powered») (firstString (w .bytes)) (s .value))
 standing Unknown s w = InRoom
 
 -- .. and, of a request that is done, how many bytes it is

@@ -1,7 +1,7 @@
 // The types of the paper: what the bridge holds, what an event changes of it, the requests of its table and what they are judged by, and the
 // two kinds of packet with their constants.
 ghost use mathlib.Core.Path.{_≡_};
-ghost use Rattle.rules.specs.Held.{powerOn, powerOnBytes};
+ghost use Rattle.rules.specs.Held.{pageBytes, pageOf, powerOn, powerOnBytes};
 ghost use Rattle.rules.specs.Packets.{commandLayout, inward, statusLayout};
 ghost use Rattle.rules.specs.Reports.{directionNumber};
 
@@ -62,9 +62,43 @@ pub struct Halts {
     pub inward: bool,
 }
 
+// Pages of the memory part, of 32, 64, 128 or 256 bytes.
+pub enum PageSize {
+    Of32,
+    Of64,
+    Of128,
+    Of256,
+}
+
+impl PageSize {
+    // Another number is taken as 32, the safe one.
+    pub fn of(number: u32) -> Self
+        ensures { λ r. ⌜ r ≡ pageOf number ⌝ }
+    {
+        match number {
+            64 => PageSize::Of64,
+            128 => PageSize::Of128,
+            256 => PageSize::Of256,
+            _ => PageSize::Of32,
+        }
+    }
+
+    pub fn bytes(self) -> u16
+        ensures { λ r. ⌜ r ≡ pageBytes self ⌝ }
+    {
+        match self {
+            PageSize::Of32 => 32,
+            PageSize::Of64 => 64,
+            PageSize::Of128 => 128,
+            PageSize::Of256 => 256,
+        }
+    }
+}
+
 // What is fixed at power-on.
 pub struct Dock {
     pub bus_powered: bool,
+    pub page: PageSize,
 }
 
 pub struct Bridge {
@@ -137,7 +171,8 @@ pub struct Setup {
 // What a control request is judged by, of all that the bridge holds beside the memory.
 pub struct Seen {
     pub configured: bool,
-    pub dock: Dock,
+    pub bus_powered: bool,
+    pub page: PageSize,
     // Configuration byte 0x0E.
     pub first_string: StringIndex,
 }

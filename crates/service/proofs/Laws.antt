@@ -4,33 +4,21 @@ use mathlib.Core.Path.{_≡_, refl, sym, ap, _∙_}
 use mathlib.Core.Bool.{cond}
 use mathlib.Core.List.{List}
 use native.Mathlib.Nat.{add-zero}
-use native.Mathlib.Omega.{arith}
-use lib.ListN.{length, set, take}
-use lib.Seq.{length-take-le}
 use borrow.Author.Tests.{ne-eqb}
-use Rattle.rules.specs.Words.{byte, over}
+use Rattle.rules.specs.Held.{pageBytes}
 use Rattle.rules.specs.Step.{done}
-use Rattle.rules.proofs.Rows.{over-all}
 use Rattle.settings.specs.declared.Settings.{Settings}
 use Rattle.settings.specs.declared.Reading.{Reading}
-use Rattle.settings.specs.Store.{settingsFrom, recordLength, wrote, writtenIn}
-use Rattle.settings.proofs.Making.{payload-made}
-use Rattle.service.specs.Calls.{result, settingsAt, showing, lays}
+use Rattle.settings.specs.Store.{recordLength, wrote, writtenIn}
+use Rattle.service.specs.Calls.{shown, showing, result, lays}
 
--- fourteen of fifteen bytes, copied
-pub taken : (s zeros : List ℕ) {part row : List ℕ} → length s ≡ 15 → length zeros ≡ 14 → part ≡ take 14 s → row ≡ over zeros 0 part
-    → settingsFrom row (byte 14 s) ≡ settingsAt s
-taken s zeros n h p e =
-    ap (λ (b : List ℕ). settingsFrom b (byte 14 s))
-    (e ∙ ap (over zeros 0) p ∙ over-all zeros (take 14 s) (length-take-le 14 s (omega arith) ∙ sym h))
+-- what is read, shown or not
+module _ (r : Reading) (bytes : List ℕ) (page : ℕ) where
+  pub is-shown : {n : ℕ} → r .answer ≡ 0 → n ≡ pageBytes (r .settings .page) → shown (r .answer) (r .settings .bytes) n ≡ showing r bytes page
+  is-shown z e = rw (e, z) refl
 
--- what is read, shown
-pub shown : (r : Reading) (before : List ℕ) {after : List ℕ} → r .answer ≡ 0 → length before ≡ 15 → length (r .settings .bytes) ≡ 14
-    → after ≡ over before 0 (r .settings .bytes) → result (r .answer) (set after 14 (r .settings .kept)) ≡ showing r before
-shown r before z n h e = rw (e, payload-made before (r .settings .bytes) (r .settings .kept) n h, z) refl
-
-pub not-shown : (r : Reading) (before : List ℕ) → (r .answer ≡ 0 → ⊥) → result (r .answer) before ≡ showing r before
-not-shown r before bad = rw (ne-eqb (r .answer) 0 bad) refl
+  pub not-shown : (r .answer ≡ 0 → ⊥) → shown (r .answer) bytes page ≡ showing r bytes page
+  not-shown bad = rw (ne-eqb (r .answer) 0 bad) refl
 
 -- what is written, or not
 module _ (s : Settings) (room : List ℕ) {answer : ℕ} {after : List ℕ} (says : wrote answer after ≡ writtenIn s room) where

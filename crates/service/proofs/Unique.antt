@@ -2,12 +2,15 @@
 use mathlib.Core.Path.{ap}
 use Rattle.rules.specs.OneOutcome.{OneOutcome}
 use Rattle.rules.proofs.Unique.{only}
-use Rattle.service.specs.Calls.{Result}
+use Rattle.service.specs.Calls.{Shown, Result}
 use Rattle.service.proofs.«service_read» as Read
 use Rattle.service.proofs.«service_write» as Write
 
 pub «service_read» : OneOutcome Read.Kinds.ps Read.Kinds.r Read.Reads.Post
-«service_read» κs a r r' left left' p q = (ap (λ (c : Result). c .returned) (only p q), ap (λ (c : Result). (tt, (c .lent, tt))) (only p q))
+«service_read» κs a r r' left left' p q = (
+  ap (λ (c : Shown). c .returned) (only p q),
+  ap (λ (c : Shown). (tt, (c .bytes, (c .page, tt)))) (only p q),
+)
 
 pub «service_write» : OneOutcome Write.Kinds.ps Write.Kinds.r Write.Reads.Post
-«service_write» κs a r r' left left' p q = (ap (λ (c : Result). c .returned) (only p q), ap (λ (c : Result). (tt, (c .lent, tt))) (only p q))
+«service_write» κs a r r' left left' p q = (ap (λ (c : Result). c .returned) (only p q), ap (λ (c : Result). (tt, (tt, (c .room, tt)))) (only p q))

@@ -2,28 +2,33 @@
 use Prim.Native.Nat.{ℕ, _+_, _*_}
 use mathlib.Core.Bool.{cond}
 use mathlib.Core.List.{List}
-use lib.ListN.{take}
-use Rattle.rules.specs.Words.{byte}
+use Rattle.rules.specs.Held.{pageBytes}
 use Rattle.rules.specs.Step.{done}
 use Rattle.settings.specs.declared.Settings.{Settings}
 use Rattle.settings.specs.declared.Reading.{Reading}
-use Rattle.settings.specs.Store.{settingsFrom, recordLength, payloadFor, Written, writtenIn}
+use Rattle.settings.specs.Store.{recordLength, Written, writtenIn}
 
--- the number that a call returns, and what it was lent to write to
-pub record Result : Type 0 where
+-- of a read: the number that it returns, and settings for C, the fourteen bytes and the page size as a number
+pub record Shown : Type 0 where
   pub returned : ℕ
-  pub lent : List ℕ
+  pub bytes : List ℕ
+  pub page : ℕ
 
-abbrev pub result : ℕ → List ℕ → Result
-result returned lent = record { returned = returned; lent = lent }
-
--- settings for C: the fourteen bytes, and then the kept one
-abbrev pub settingsAt : List ℕ → Settings
-settingsAt s = settingsFrom (take 14 s) (byte 14 s)
+abbrev pub shown : ℕ → List ℕ → ℕ → Shown
+shown returned bytes page = record { returned = returned; bytes = bytes; page = page }
 
 -- what is read is shown where the answer is 0, and nothing of a refused store
-abbrev pub showing : Reading → List ℕ → Result
-showing r lent = result (r .answer) (cond (done (r .answer)) (payloadFor (r .settings)) lent)
+abbrev pub showing : Reading → List ℕ → ℕ → Shown
+showing r bytes page =
+    shown (r .answer) (cond (done (r .answer)) (r .settings .bytes) bytes) (cond (done (r .answer)) (pageBytes (r .settings .page)) page)
+
+-- of a write: the number that it returns, and the lent room
+pub record Result : Type 0 where
+  pub returned : ℕ
+  pub room : List ℕ
+
+abbrev pub result : ℕ → List ℕ → Result
+result returned room = record { returned = returned; room = room }
 
 -- the answer, and above it how many bytes were written
 abbrev pub lays : Settings → List ℕ → Result

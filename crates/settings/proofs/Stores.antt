@@ -1,5 +1,5 @@
 -- What holds of stores: record by record, and of a run of them.
-use Prim.Native.Nat.{ℕ, zero, suc, _+_, _<_, _≤_}
+use Prim.Native.Nat.{ℕ, zero, suc, _+_, _*_, _/_, _<_, _≤_}
 use mathlib.Core.Path.{_≡_, refl, sym, ap, _∙_}
 use mathlib.Core.Logic.{inl, inr}
 use mathlib.Core.Bool.{Bool, true, false, cond, and-false}
@@ -10,11 +10,16 @@ use lib.ListN.{length, take, drop, length-append, drop-of-length-le}
 use lib.Seq.{take-all, take-length, take-at, getD-at, getD-take, length-take-le}
 use lib.Dec.{ltb}
 use borrow.Author.Tests.{lt-ltb, le-ltb, ltb-true, ltb-false, le-leb, lt-leb, eqb-true, eqb-false, eq-eqb, ne-eqb}
+use Rattle.rules.specs.declared.PageSize.{PageSize}
+use Rattle.rules.specs.declared.PageSize.the-variants.{Of256}
 use Rattle.rules.specs.Words.{byte, first}
+use Rattle.rules.specs.Held.{pageBytes, pageOf}
 use Rattle.rules.specs.Step.{done}
+use Rattle.rules.proofs.Pages.{in-32s}
+use Rattle.rules.proofs.Demands.Pages.{numbers-are-taken}
 use Rattle.settings.specs.declared.Reading.{Reading}
 use Rattle.settings.specs.Store.{lengthOf, payloadOf, recordOf, settingsFrom, lengthFor, settingsOf, knows, recordChecks, hidden, refused, recordRead, readOn, readBy, newest, payloadFor, written}
-use Rattle.settings.specs.Stores.{accepted, Good, LastCounts, RecordIsRead, SettingsComeBack, RoomIsExact, Unfamiliar, UnfamiliarIsRefused, CutIsRefused, OtherLengthIsRefused, NothingIsRefused, RefusedShowsNothing}
+use Rattle.settings.specs.Stores.{accepted, Good, LastCounts, RecordIsRead, OtherByteIs32, SettingsComeBack, RoomIsExact, Unfamiliar, UnfamiliarIsRefused, CutIsRefused, OtherLengthIsRefused, NothingIsRefused, RefusedShowsNothing}
 use Rattle.settings.proofs.Records.{fine, recorded, cut, unknown, other-length, good as record-good, length-alone, record-alone, made-length, made-kind, made-whole}
 
 -- ---- one record, and what is behind it
@@ -98,8 +103,8 @@ strange k kind (inr none) = rw (ne-eqb kind 0x0101 (none .0), ne-eqb kind 0x0102
 knows-plain : (k : ℕ) → 0x0101 ≤ k → knows k 0x0101 ≡ true
 knows-plain k h = rw (le-leb 0x0101 k h) refl
 
-knows-keeping : (k : ℕ) → 0x0102 ≤ k → knows k 0x0102 ≡ true
-knows-keeping k h = rw (le-leb 0x0102 k h) refl
+knows-paged : (k : ℕ) → 0x0102 ≤ k → knows k 0x0102 ≡ true
+knows-paged k h = rw (le-leb 0x0102 k h) refl
 
 -- one of a kind that the reader knows, as long as it should be, is all of its store
 made-read : (k kind : ℕ) (payload : List ℕ) → kind < 65536 → length payload < 65536 → knows k kind ≡ true → length payload ≡ lengthFor kind
@@ -142,7 +147,7 @@ unfamiliar-is-refused k kind front payload rest good unfamiliar h short = made-u
 pub other-length-is-refused : OtherLengthIsRefused
 other-length-is-refused k front payload rest good short = (
   λ h e. made-other k 0x0101 front payload rest good (omega arith) short (knows-plain k h) e,
-  λ h e. made-other k 0x0102 front payload rest good (omega arith) short (knows-keeping k h) e,
+  λ h e. made-other k 0x0102 front payload rest good (omega arith) short (knows-paged k h) e,
 )
 
 -- a beginning of a record has both bytes of its length, or not all of its head
@@ -168,22 +173,35 @@ cut-is-refused k kind n front payload good short some less =
     refuses k 19 front (take n (recordOf kind payload)) good
     (omega (arith, length-take-le n (recordOf kind payload) (omega arith))) (made-cut k kind n payload short less)
 
+-- a record of the newest kind, by its last byte
+paged-read : (k : ℕ) (bytes : List ℕ) (last : ℕ) → length bytes ≡ 14 → 0x0102 ≤ k
+    → readBy k (recordOf 0x0102 (bytes ++ last ∷ [])) ≡ accepted (settingsFrom bytes (pageOf (32 * last)))
+paged-read k bytes last h known =
+    let n : length (bytes ++ last ∷ []) ≡ 15 = length-append bytes (last ∷ []) ∙ omega arith in
+    made-read k 0x0102 (bytes ++ last ∷ []) (omega arith) (omega arith) (knows-paged k known) n
+    ∙ ap (λ (b : List ℕ). accepted (settingsFrom b (pageOf (32 * byte 14 (bytes ++ last ∷ []))))) (take-at bytes (last ∷ []) 14 h)
+    ∙ ap (λ (b : ℕ). accepted (settingsFrom bytes (pageOf (32 * b)))) (getD-at bytes last [] 0 14 h)
+
 pub record-is-read : RecordIsRead
-record-is-read k bytes kept h =
-    let n : length (bytes ++ kept ∷ []) ≡ 15 = length-append bytes (kept ∷ []) ∙ omega arith in (
-      λ known.
-          made-read k 0x0101 bytes (omega arith) (omega arith) (knows-plain k known) h
-          ∙ ap (λ (b : List ℕ). accepted (settingsFrom b 0)) (take-all 14 bytes (omega arith)),
-      λ known.
-          made-read k 0x0102 (bytes ++ kept ∷ []) (omega arith) (omega arith) (knows-keeping k known) n
-          ∙ ap (λ (b : List ℕ). accepted (settingsFrom b (byte 14 (bytes ++ kept ∷ [])))) (take-at bytes (kept ∷ []) 14 h)
-          ∙ ap (λ (b : ℕ). accepted (settingsFrom bytes b)) (getD-at bytes kept [] 0 14 h),
-    )
+record-is-read k bytes page h = (
+  λ known.
+      made-read k 0x0101 bytes (omega arith) (omega arith) (knows-plain k known) h
+      ∙ ap (λ (b : List ℕ). accepted (settingsFrom b Of256)) (take-all 14 bytes (omega arith)),
+  λ known.
+      paged-read k bytes (pageBytes page / 32) h known
+      ∙ ap (λ (p : PageSize). accepted (settingsFrom bytes p)) (ap pageOf (sym (in-32s page)) ∙ numbers-are-taken .0 page),
+)
+
+pub other-byte-is-32 : OtherByteIs32
+other-byte-is-32 k bytes last h known two four eight =
+    paged-read k bytes last h known
+    ∙ ap (λ (p : PageSize). accepted (settingsFrom bytes p))
+    (numbers-are-taken .1 (32 * last) (λ e. two (omega arith)) (λ e. four (omega arith)) (λ e. eight (omega arith)))
 
 pub settings-come-back : SettingsComeBack
 settings-come-back s h =
-    let n : length (payloadFor s) ≡ 15 = length-append (s .bytes) (s .kept ∷ []) ∙ omega arith in
-    (record-is-read newest (s .bytes) (s .kept) h .1 (omega arith), refl, made-length newest (payloadFor s) [] (omega arith) ∙ n, omega arith)
+    let n : length (payloadFor s) ≡ 15 = length-append (s .bytes) (pageBytes (s .page) / 32 ∷ []) ∙ omega arith in
+    (record-is-read newest (s .bytes) (s .page) h .1 (omega arith), refl, made-length newest (payloadFor s) [] (omega arith) ∙ n, omega arith)
 
 pub room-is-exact : RoomIsExact
 room-is-exact s room h =

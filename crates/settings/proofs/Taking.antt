@@ -1,5 +1,5 @@
 -- Laws by which code reads a record: its number, the kinds that this edition knows, and where the bytes of a good one stand.
-use Prim.Native.Nat.{ℕ, _<_, _≤_}
+use Prim.Native.Nat.{ℕ, _*_, _<_, _≤_}
 use mathlib.Core.Path.{_≡_, refl, sym, ap, _∙_}
 use mathlib.Core.Bool.{Bool, true, false, cond, not, _&&_, _||_, and-false}
 use mathlib.Core.List.{List}
@@ -8,7 +8,10 @@ use lib.ListN.{length, take, drop, length-drop}
 use lib.Seq.{length-take-le, take-take, getD-take, getD-drop}
 use lib.Dec.{eqb, leb}
 use borrow.Author.Tests.{eqb-true, ne-eqb}
+use Rattle.rules.specs.declared.PageSize.{PageSize}
+use Rattle.rules.specs.declared.PageSize.the-variants.{Of256}
 use Rattle.rules.specs.Words.{byte, first, over}
+use Rattle.rules.specs.Held.{pageOf}
 use Rattle.rules.proofs.Rows.{over-all}
 use Rattle.settings.specs.declared.Settings.{Settings}
 use Rattle.settings.specs.Store.{lengthOf, kindOf, payloadOf, settingsFrom, lengthFor, settingsOf, knows, recordChecks, refused, recordRead, newest}
@@ -60,19 +63,19 @@ module _ (k : ℕ) (s : List ℕ) (passes : first (recordChecks k s) ≡ 0) wher
       ∙ sym (take-take 14 (lengthOf s) (drop 4 s) (omega (arith, f .fits, payload-least (kindOf s))))
 
   pub plain-there : {row : List ℕ} (zeros : List ℕ) → length zeros ≡ 14 → row ≡ over zeros 0 (take 14 (drop 4 s)) → kindOf s ≡ 0x0101
-      → settingsFrom row 0 ≡ settingsOf (kindOf s) (payloadOf s)
+      → settingsFrom row Of256 ≡ settingsOf (kindOf s) (payloadOf s)
   plain-there zeros h e kind = rw (kind, copied zeros h e) refl
 
-  module _ (keeps : kindOf s ≡ 0x0101 → ⊥) where
+  module _ (paged : kindOf s ≡ 0x0101 → ⊥) where
     fifteen : lengthOf s ≡ 15
-    fifteen = f .fits ∙ rw (ne-eqb (kindOf s) 0x0101 keeps) refl
+    fifteen = f .fits ∙ rw (ne-eqb (kindOf s) 0x0101 paged) refl
 
     pub nineteen : 18 < length s
     nineteen = omega (arith, f .whole, fifteen)
 
-    kept-there : byte 18 s ≡ byte 14 (payloadOf s)
-    kept-there = sym (getD-take (lengthOf s) (drop 4 s) 14 0 (omega (arith, fifteen)) ∙ getD-drop 4 s 14 0)
+    last-there : byte 18 s ≡ byte 14 (payloadOf s)
+    last-there = sym (getD-take (lengthOf s) (drop 4 s) 14 0 (omega (arith, fifteen)) ∙ getD-drop 4 s 14 0)
 
-    pub keeping-there : {row : List ℕ} (zeros : List ℕ) → length zeros ≡ 14 → row ≡ over zeros 0 (take 14 (drop 4 s))
-        → settingsFrom row (byte 18 s) ≡ settingsOf (kindOf s) (payloadOf s)
-    keeping-there zeros h e = rw (ne-eqb (kindOf s) 0x0101 keeps, copied zeros h e, kept-there) refl
+    pub paged-there : {row : List ℕ} {page : PageSize} (zeros : List ℕ) → length zeros ≡ 14 → row ≡ over zeros 0 (take 14 (drop 4 s))
+        → page ≡ pageOf (32 * byte 18 s) → settingsFrom row page ≡ settingsOf (kindOf s) (payloadOf s)
+    paged-there zeros h e p = rw (ne-eqb (kindOf s) 0x0101 paged, copied zeros h e, p, last-there) refl

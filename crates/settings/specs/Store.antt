@@ -1,11 +1,13 @@
--- A settings store: request 5 of document 02, in its order and words.
-use Prim.Native.Nat.{ℕ, zero, suc, _+_, _/_, _%_}
+-- A settings store: request 5 of document 02, in its order and words, and what request 6 makes of the last byte.
+use Prim.Native.Nat.{ℕ, zero, suc, _+_, _*_, _/_, _%_}
 use mathlib.Core.Bool.{Bool, cond, not, _&&_, _||_}
 use mathlib.Core.List.{List, [], _∷_, _++_}
 use lib.ListN.{length, take, drop}
 use lib.Dec.{eqb, leb, ltb}
 use Rattle.rules.specs.Words.{byte, word, Check, _if_, first, laid}
-use Rattle.rules.specs.Held.{defaults}
+use Rattle.rules.specs.declared.PageSize.{PageSize}
+use Rattle.rules.specs.declared.PageSize.the-variants.{Of32, Of256}
+use Rattle.rules.specs.Held.{pageBytes, pageOf, defaults}
 use Rattle.rules.specs.Step.{done}
 use Rattle.settings.specs.declared.Settings.{Settings}
 use Rattle.settings.specs.declared.Reading.{Reading}
@@ -28,16 +30,17 @@ bytes2 n = n % 256 ∷ n / 256 % 256 ∷ []
 abbrev pub recordOf : ℕ → List ℕ → List ℕ
 recordOf kind payload = bytes2 (length payload) ++ bytes2 kind ++ payload
 
--- ---- "Kind 0x0101 is fourteen bytes for addresses 2 to F. Kind 0x0102 is the same and one byte more, kept for the next edition; 0x0101 reads as 0 there."
+-- ---- "Kind 0x0101 is fourteen bytes for addresses 2 to F. Kind 0x0102 is the same and one byte more", by request 6 "the page size divided by 32 in its
+-- last byte, any other byte reading as 32; 0x0101 reads as 256. Settings hold one of the four sizes."
 
-abbrev pub settingsFrom : List ℕ → ℕ → Settings
-settingsFrom bytes kept = record { bytes = bytes; kept = kept }
+abbrev pub settingsFrom : List ℕ → PageSize → Settings
+settingsFrom bytes page = record { bytes = bytes; page = page }
 
 abbrev pub lengthFor : ℕ → ℕ
 lengthFor kind = cond (eqb kind 0x0101) 14 15
 
 abbrev pub settingsOf : ℕ → List ℕ → Settings
-settingsOf kind payload = settingsFrom (take 14 payload) (cond (eqb kind 0x0101) 0 (byte 14 payload))
+settingsOf kind payload = settingsFrom (take 14 payload) (cond (eqb kind 0x0101) Of256 (pageOf (32 * byte 14 payload)))
 
 -- The reader of an edition knows the kinds that there are up to its newest, k.
 abbrev pub knows : ℕ → ℕ → Bool
@@ -54,9 +57,9 @@ recordChecks k s =
     ∷ 22 if not (eqb (lengthOf s) (lengthFor (kindOf s)))
     ∷ []
 
--- "refuses by number and shows nothing": the settings that come with a refusal are the defaults
+-- "refuses by number and shows nothing": the settings that come with a refusal are the defaults, and the safe page size
 abbrev pub hidden : Settings
-hidden = settingsFrom defaults 0
+hidden = settingsFrom defaults Of32
 
 abbrev pub refused : ℕ → Reading
 refused number = record { answer = number; settings = hidden }
@@ -77,6 +80,10 @@ readOn k zero so-far (b ∷ s) =
 abbrev pub readBy : ℕ → List ℕ → Reading
 readBy k store = readOn k 0 (refused 23) store
 
+-- "an accepted store's size replaces the number given at power-on"
+abbrev pub inForce : PageSize → Reading → PageSize
+inForce given r = cond (done (r .answer)) (r .settings .page) given
+
 -- ---- "The writer makes one record of the newest kind it knows." "Writer: 29 less room than the record, nothing written."
 
 -- the newest kind of this edition
@@ -88,7 +95,7 @@ abbrev pub recordLength : ℕ
 recordLength = 4 + lengthFor newest
 
 abbrev pub payloadFor : Settings → List ℕ
-payloadFor s = s .bytes ++ s .kept ∷ []
+payloadFor s = s .bytes ++ pageBytes (s .page) / 32 ∷ []
 
 abbrev pub written : Settings → List ℕ
 written s = recordOf newest (payloadFor s)

@@ -1,9 +1,12 @@
 -- What holds of stores, over every edition of the reader: proved in proofs/Stores.
-use Prim.Native.Nat.{ℕ, _+_, _<_, _≤_}
+use Prim.Native.Nat.{ℕ, _+_, _/_, _<_, _≤_}
 use mathlib.Core.Path.{_≡_}
 use mathlib.Core.Logic.{_⊎_}
 use mathlib.Core.List.{List, [], _∷_, _++_}
 use lib.ListN.{length, take, drop}
+use Rattle.rules.specs.declared.PageSize.{PageSize}
+use Rattle.rules.specs.declared.PageSize.the-variants.{Of32, Of256}
+use Rattle.rules.specs.Held.{pageBytes}
 use Rattle.settings.specs.declared.Settings.{Settings}
 use Rattle.settings.specs.declared.Reading.{Reading}
 use Rattle.settings.specs.Store.{lengthOf, kindOf, recordOf, settingsFrom, lengthFor, refused, readBy, newest, recordLength, written, wrote, writtenIn}
@@ -20,12 +23,19 @@ Good k front = (front ≡ []) ⊎ (readBy k front .answer ≡ 0)
 abbrev pub LastCounts : Type 0
 LastCounts = (k : ℕ) (front rest : List ℕ) → Good k front → 0 < length rest → readBy k (front ++ rest) ≡ readBy k rest
 
--- "Kind 0x0101 is fourteen bytes .. Kind 0x0102 is the same and one byte more .. ; 0x0101 reads as 0 there."
+-- "Kind 0x0101 is fourteen bytes .. Kind 0x0102 is the same and one byte more"; it "now holds the page size divided by 32 in its last byte .. ; 0x0101 reads
+-- as 256"
 abbrev pub RecordIsRead : Type 0
 RecordIsRead =
-    (k : ℕ) (bytes : List ℕ) (kept : ℕ) → length bytes ≡ 14
-    → (0x0101 ≤ k → readBy k (recordOf 0x0101 bytes) ≡ accepted (settingsFrom bytes 0))
-    × (0x0102 ≤ k → readBy k (recordOf 0x0102 (bytes ++ kept ∷ [])) ≡ accepted (settingsFrom bytes kept))
+    (k : ℕ) (bytes : List ℕ) (page : PageSize) → length bytes ≡ 14
+    → (0x0101 ≤ k → readBy k (recordOf 0x0101 bytes) ≡ accepted (settingsFrom bytes Of256))
+    × (0x0102 ≤ k → readBy k (recordOf 0x0102 (bytes ++ pageBytes page / 32 ∷ [])) ≡ accepted (settingsFrom bytes page))
+
+-- .. "any other byte reading as 32"
+abbrev pub OtherByteIs32 : Type 0
+OtherByteIs32 =
+    (k : ℕ) (bytes : List ℕ) (last : ℕ) → length bytes ≡ 14 → 0x0102 ≤ k → (last ≡ 2 → ⊥) → (last ≡ 4 → ⊥) → (last ≡ 8 → ⊥)
+    → readBy k (recordOf 0x0102 (bytes ++ last ∷ [])) ≡ accepted (settingsFrom bytes Of32)
 
 -- "Writing then reading gives back the same settings", for all settings: the number is 0. The store is one record, of the newest kind, and as long as the
 -- room that the writer asks for.
@@ -69,8 +79,9 @@ OtherLengthIsRefused =
 abbrev pub NothingIsRefused : Type 0
 NothingIsRefused = (k : ℕ) → readBy k [] ≡ refused 23
 
--- A refused store shows nothing: what comes with the refusal are the defaults, "all are 0, but 0x04 is 0x24", whatever stands in the store.
+-- A refused store shows nothing: what comes with the refusal are the defaults, "all are 0, but 0x04 is 0x24", and the safe page size, whatever stands in
+-- the store.
 abbrev pub RefusedShowsNothing : Type 0
 RefusedShowsNothing =
     (k : ℕ) (store : List ℕ) → (readBy k store .answer ≡ 0 → ⊥)
-    → readBy k store .settings ≡ settingsFrom (0 ∷ 0 ∷ 0x24 ∷ 0 ∷ 0 ∷ 0 ∷ 0 ∷ 0 ∷ 0 ∷ 0 ∷ 0 ∷ 0 ∷ 0 ∷ 0 ∷ []) 0
+    → readBy k store .settings ≡ settingsFrom (0 ∷ 0 ∷ 0x24 ∷ 0 ∷ 0 ∷ 0 ∷ 0 ∷ 0 ∷ 0 ∷ 0 ∷ 0 ∷ 0 ∷ 0 ∷ 0 ∷ []) Of32

@@ -1,15 +1,18 @@
 // Settings that field service keeps: a store of them is read, and a record of them is written.
 ghost use mathlib.Core.Path.{_≡_};
+ghost use Prim.Native.Nat.{_*_, _/_};
 ghost use lib.ListN.{length};
+ghost use Rattle.rules.specs.Held.{pageBytes, pageOf};
 ghost use Rattle.rules.specs.Words.{first};
 ghost use Rattle.settings.specs.Store.{lengthFor, settingsOf, kindOf, payloadOf, recordChecks, hidden, refused as refusal, recordRead, readBy, newest, written, wrote, writtenIn};
+use rules::PageSize;
 use rules::answers;
 use rules::fields::FIRST_SETTING;
 
-// The bytes for configuration addresses 2 to F, and one that is kept for the next edition.
+// The bytes for configuration addresses 2 to F, and the page size.
 pub struct Settings {
     pub bytes: [u8; 14],
-    pub kept: u8,
+    pub page: PageSize,
 }
 
 // What a store says: its number, and where that is 0 the settings, else the defaults.
@@ -21,10 +24,10 @@ pub struct Reading {
 // The head of a record: payload length and kind.
 const HEAD: usize = 4;
 
-// The kinds of record: the fourteen bytes, and these with the kept one.
+// The kinds of record: the fourteen bytes, and these with the page size.
 const PLAIN: u16 = 0x0101;
 
-const KEEPING: u16 = 0x0102;
+const PAGED: u16 = 0x0102;
 
 // What a written record takes.
 pub const RECORD: usize = 19;
@@ -47,13 +50,26 @@ fn judge(store: &[u8]) -> u8
         return answers::CUT_RECORD;
     }
     let kind = lent::word(store[2], store[3]);
-    if (kind != PLAIN) & (kind != KEEPING) {
+    if (kind != PLAIN) & (kind != PAGED) {
         return answers::UNKNOWN_KIND;
     }
     if length != length_of(kind) {
         return answers::PAYLOAD_LENGTH;
     }
     answers::DONE
+}
+
+// The page size, from the last byte of a record and for it.
+fn page_from(last: u8) -> PageSize
+    ensures { λ r. ⌜ r ≡ pageOf (32 * last) ⌝ }
+{
+    PageSize::of(32 * last as u32)
+}
+
+fn last_for(page: PageSize) -> u8
+    ensures { λ r. ⌜ r ≡ pageBytes page / 32 ⌝ }
+{
+    (page.bytes() / 32) as u8
 }
 
 fn defaults() -> Settings
@@ -67,7 +83,7 @@ fn defaults() -> Settings
     );
     Settings {
         bytes: bytes,
-        kept: 0,
+        page: PageSize::Of32,
     }
 }
 
@@ -87,14 +103,14 @@ fn settings_in(store: &[u8]) -> Settings
 {
     let mut bytes = [0; 14];
     lent::copy(&mut bytes, 0, &store[HEAD..HEAD + 14]);
-    let kept = if lent::word(store[2], store[3]) == PLAIN {
-        0
+    let page = if lent::word(store[2], store[3]) == PLAIN {
+        PageSize::Of256
     } else {
-        store[HEAD + 14]
+        page_from(store[HEAD + 14])
     };
     Settings {
         bytes: bytes,
-        kept: kept,
+        page: page,
     }
 }
 
@@ -133,11 +149,12 @@ fn record_of(settings: Settings) -> [u8; RECORD]
 {
     let mut made = [0; RECORD];
     made[0] = 15;
-    made[2] = (KEEPING % 256) as u8;
-    made[3] = (KEEPING / 256) as u8;
+    made[2] = (PAGED % 256) as u8;
+    made[3] = (PAGED / 256) as u8;
     let bytes = settings.bytes;
     lent::copy(&mut made, HEAD, &bytes);
-    made[RECORD - 1] = settings.kept;
+    let page = settings.page;
+    made[RECORD - 1] = last_for(page);
     made
 }
 

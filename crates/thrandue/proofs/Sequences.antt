@@ -5,8 +5,10 @@ use mathlib.Core.List.{List, [], _∷_, _++_}
 use Prim.Native.Nat.{ℕ}
 use native.Mathlib.Omega.{arith}
 use lib.ListN.{length, drop, length-set, length-append, length-drop, take-append-drop}
+use borrow.Author.Tests.{ne-eqb}
+use Rattle.rules.specs.declared.Dock.{Dock}
 use Rattle.rules.specs.Words.{over}
-use Rattle.rules.specs.Held.{World, Start, holding, powerOnBytes, starting}
+use Rattle.rules.specs.Held.{World, Start, holding, docked, powerOnBytes, starting}
 use Rattle.rules.specs.Held.{powered as atPowerOn}
 use Rattle.rules.specs.Step.{Event, BusReset, Control, Packet, Report, StatusRequest, Burst, EndMark, Outcome, change, heldAfter, step, rules, after, reached}
 use Rattle.rules.specs.Promise.{handedOut, roomWith}
@@ -20,13 +22,14 @@ use Rattle.rules.proofs.Demands.Settings.{keeps-count, saved-is-restored}
 use Rattle.rules.proofs.Demands.Sizes.{Measured, sized, stepped, measured, measured-on}
 use Rattle.settings.specs.declared.Reading.{Reading}
 use Rattle.settings.specs.declared.Settings.{Settings}
-use Rattle.settings.specs.Store.{settingsFrom, newest}
+use Rattle.settings.specs.Store.{settingsFrom, readBy, newest, inForce}
+use Rattle.settings.specs.Stores.{accepted}
 use Rattle.settings.proofs.Stores.{settings-come-back, refused-shows-nothing}
 use Rattle.image.specs.Image.{powered, worldOf, dropped, put, added}
 use Rattle.image.proofs.Holding.{added-length, burst-in-step}
 use Rattle.image.proofs.InStep.{powers-on, powered-length, in-step, dropped-in-step, put-length}
-use Rattle.thrandue.specs.Calls.{returns, holds}
-use Rattle.thrandue.specs.Sequences.{StandsForIt, Call, eventOf, eventsOf, Learnt, learnt, Parts, calling, partsAfter, learns, partsSince, standsFor, ruled, FromPowerOn, Hushed, AllHushed, CallsAreSilent, CallsResume, RefusedLeavesDefaults, StoredIsRestored}
+use Rattle.thrandue.specs.Calls.{returns, holds, poweredBy}
+use Rattle.thrandue.specs.Sequences.{StandsForIt, Call, eventOf, eventsOf, Learnt, learnt, Parts, calling, partsAfter, learns, partsSince, standsFor, ruled, FromPowerOn, Hushed, AllHushed, CallsAreSilent, CallsResume, RefusedLeavesDefaults, StoredSizeReplaces, StoredIsRestored}
 use Rattle.thrandue.proofs.Laws.{sixteen}
 
 -- ---- one call. The configuration bytes stay sixteen.
@@ -180,17 +183,30 @@ calls-resume start memory history d since b kept all all' stop ends same =
 
 -- ---- a store at power-on
 
+-- the dock of a power-on with a good reading has its page size
+replaced : (given : Dock) (r : Reading) (memory : List ℕ) → r .answer ≡ 0
+    → worldOf (poweredBy given r .image) memory .bridge .dock ≡ docked (given .«bus_powered») (r .settings .page)
+replaced given r memory z =
+    ap (λ (v : World). v .bridge .dock) (powers-on (starting (docked (given .«bus_powered») (inForce (given .page) r)) (r .settings .bytes)) memory)
+    ∙ rw z refl
+
+pub stored-size-replaces : StoredSizeReplaces
+stored-size-replaces given store memory z = replaced given (readBy newest store) memory z
+
 pub refused-leaves-defaults : RefusedLeavesDefaults
-refused-leaves-defaults dock store bad = ap (λ (s : Settings). powered (starting dock (s .bytes))) (refused-shows-nothing newest store bad)
+refused-leaves-defaults dock store bad =
+    rw (ne-eqb (readBy newest store .answer) 0 bad) (ap (λ (s : Settings). powered (starting dock (s .bytes))) (refused-shows-nothing newest store bad))
 
 pub stored-is-restored : StoredIsRestored
-stored-is-restored start memory cs kept b =
+stored-is-restored start memory cs given b =
     let run = since-on start memory cs b in
     let w : World = standsFor (partsSince start memory cs) in
     let n : length (drop 2 (w .bytes)) ≡ 14 = length-drop 2 (w .bytes) ∙ omega (arith, sixteen (partsSince start memory cs .0) (omega (arith, run .image))) in
-    let read = settings-come-back (settingsFrom (drop 2 (w .bytes)) kept) n .0 in (
+    let dock : Dock = docked (w .bridge .dock .«bus_powered») given in
+    let read = settings-come-back (settingsFrom (drop 2 (w .bytes)) (w .bridge .dock .page)) n .0 in (
       ap (λ (r : Reading). r .answer) read,
-      ap (λ (r : Reading). worldOf (powered (starting (w .bridge .dock) (r .settings .bytes))) memory .bytes) read
+      ap (λ (r : Reading). worldOf (poweredBy dock r .image) memory .bytes) read
           ∙ ap (λ (v : World). v .bytes) (powers-on (starting (w .bridge .dock) (drop 2 (w .bytes))) memory)
           ∙ subst (λ (v : World). over powerOnBytes 2 (drop 2 (v .bytes)) ≡ v .bytes) (sym (run .stands-so)) (saved-is-restored start memory (eventsOf cs)),
+      ap (λ (r : Reading). worldOf (poweredBy dock r .image) memory .bridge .dock) read ∙ replaced dock (accepted (settingsFrom (drop 2 (w .bytes)) (w .bridge .dock .page))) memory refl,
     )

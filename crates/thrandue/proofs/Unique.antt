@@ -23,10 +23,10 @@ abbrev number : Called → ℕ
 number c = c .returned
 
 pub «thrandue_power_on» : OneOutcome PowerOn.Kinds.ps PowerOn.Kinds.r PowerOn.Reads.Post
-«thrandue_power_on» κs a r r' left left' p q = (ap number (only p q), ap (λ (c : Called). (c .image, (tt, tt))) (only p q))
+«thrandue_power_on» κs a r r' left left' p q = (ap number (only p q), ap (λ (c : Called). (c .image, (tt, (tt, tt)))) (only p q))
 
 pub «thrandue_power_on_with_store» : OneOutcome PowerOnWithStore.Kinds.ps PowerOnWithStore.Kinds.r PowerOnWithStore.Reads.Post
-«thrandue_power_on_with_store» κs a r r' left left' p q = (ap number (only p q), ap (λ (c : Called). (c .image, (tt, (tt, tt)))) (only p q))
+«thrandue_power_on_with_store» κs a r r' left left' p q = (ap number (only p q), ap (λ (c : Called). (c .image, (tt, (tt, (tt, tt))))) (only p q))
 
 pub «thrandue_bus_reset» : OneOutcome BusReset.Kinds.ps BusReset.Kinds.r BusReset.Reads.Post
 «thrandue_bus_reset» κs a r r' left left' p q =

@@ -13,9 +13,10 @@ use Rattle.rules.specs.Words.{one}
 use Rattle.rules.specs.declared.Change.the-variants.{Drops}
 use Rattle.rules.specs.Descriptors.{numberOf as startOf}
 use Rattle.rules.specs.Step.{Event, BusReset, Control, Packet, Report, StatusRequest, Burst, EndMark}
-use Rattle.rules.specs.Held.{starting}
+use Rattle.rules.specs.Held.{docked, starting}
 use Rattle.rules.specs.Promise.{Left, leaves}
 use Rattle.settings.specs.declared.Reading.{Reading}
+use Rattle.settings.specs.Store.{inForce}
 use Rattle.image.specs.Image.{worldOf, powered, put, added}
 
 -- the number that a call returns, the image, the memory, and the lent room
@@ -56,9 +57,12 @@ calls image memory event room = inImage (event (length room)) image (leaves (wor
 abbrev pub CallTold : List ℕ → (ℕ → Event) → List ℕ → ℕ → List ℕ → List ℕ → Type 0
 CallTold image event room returned image' room' = (memory : List ℕ) → called returned image' memory room' ≡ calls image memory event room
 
--- power-on with what is read of a store: its number is returned, and its fourteen bytes stand at their addresses, which are the defaults where it is refused
+-- power-on with what is read of a store: its number is returned, its fourteen bytes stand at their addresses, which are the defaults where it is refused, and
+-- its page size is in force, which is the given one where it is refused
 abbrev pub poweredBy : Dock → Reading → Called
-poweredBy dock r = called (r .answer) (powered (starting dock (r .settings .bytes))) [] []
+poweredBy given r =
+    let dock : Dock = docked (given .«bus_powered») (inForce (given .page) r) in
+    called (r .answer) (powered (starting dock (r .settings .bytes))) [] []
 
 -- ---- readers of the image
 

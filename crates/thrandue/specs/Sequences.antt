@@ -5,8 +5,9 @@ use mathlib.Core.Bool.{true}
 use mathlib.Core.List.{List, [], _∷_, _++_}
 use lib.ListN.{length, drop}
 use Rattle.rules.specs.declared.Dock.{Dock}
+use Rattle.rules.specs.declared.PageSize.{PageSize}
 use Rattle.rules.specs.declared.Stands.the-variants.{InRoom}
-use Rattle.rules.specs.Held.{World, Start, holding, byDefault}
+use Rattle.rules.specs.Held.{World, Start, holding, docked, byDefault}
 use Rattle.rules.specs.Held.{powered as atPowerOn}
 use Rattle.rules.specs.Step.{Event, BusReset, Control, Packet, Report, StatusRequest, Burst, EndMark, change, step, rules, after, reached}
 use Rattle.rules.specs.Promise.{Left, leaves}
@@ -126,16 +127,24 @@ CallsResume =
 
 -- ---- a store at power-on
 
+-- "an accepted store's size replaces the number given at power-on", whatever that was
+abbrev pub StoredSizeReplaces : Type 0
+StoredSizeReplaces =
+    (given : Dock) (store memory : List ℕ) → readBy newest store .answer ≡ 0
+    → worldOf (poweredBy given (readBy newest store) .image) memory .bridge .dock ≡ docked (given .«bus_powered») (readBy newest store .settings .page)
+
 -- "a refused store leaves the defaults": the image is that of a power-on without a store, byte for byte
 abbrev pub RefusedLeavesDefaults : Type 0
 RefusedLeavesDefaults =
     (dock : Dock) (store : List ℕ) → (readBy newest store .answer ≡ 0 → ⊥) → poweredBy dock (readBy newest store) .image ≡ powered (byDefault dock)
 
--- Field service keeps settings and puts them back: after any calls, the fourteen bytes that a dock holds are written to a store, with any byte kept. A dock
--- that is powered on with it answers 0 and holds the same sixteen.
+-- Field service keeps settings and puts them back: after any calls, the fourteen bytes and the page size that a dock holds are written to a store. A dock that
+-- is powered on with it, whatever page size it is given, answers 0 and has the same sixteen bytes and the same page size.
 abbrev pub StoredIsRestored : Type 0
 StoredIsRestored =
-    (start : Start) (memory : List ℕ) (cs : List Call) (kept : ℕ) → AllOfBytes (eventsOf cs)
+    (start : Start) (memory : List ℕ) (cs : List Call) (given : PageSize) → AllOfBytes (eventsOf cs)
     → (let w : World = standsFor (partsSince start memory cs) in
-    let c : Called = poweredBy (w .bridge .dock) (readBy newest (written (settingsFrom (drop 2 (w .bytes)) kept))) in
-    (c .returned ≡ 0) × (worldOf (c .image) memory .bytes ≡ w .bytes))
+    let dock : Dock = w .bridge .dock in
+    let c : Called = poweredBy (docked (dock .«bus_powered») given) (readBy newest (written (settingsFrom (drop 2 (w .bytes)) (dock .page)))) in
+    let v : World = worldOf (c .image) memory in
+    (c .returned ≡ 0) × (v .bytes ≡ w .bytes) × (v .bridge .dock ≡ dock))

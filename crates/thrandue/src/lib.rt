@@ -4,11 +4,11 @@ ghost use mathlib.Core.List.{[], _++_};
 ghost use Prim.Native.Nat.{_≤_};
 ghost use lib.ListN.{length, drop};
 ghost use Rattle.outcomes.specs.Outcomes.{leftBy};
-ghost use Rattle.rules.specs.Held.{world, byDefault, configuration};
+ghost use Rattle.rules.specs.Held.{world, pageOf, docked, byDefault, configuration};
 ghost use Rattle.rules.specs.Promise.{served};
 ghost use Rattle.rules.specs.declared.Stands.the-variants.{InRoom, InMemory};
 ghost use Rattle.rules.specs.Step.{BusReset, Control, Report, StatusRequest};
-ghost use Rattle.settings.specs.Store.{readBy, newest};
+ghost use Rattle.settings.specs.Store.{readBy, newest, inForce};
 ghost use Rattle.image.specs.Image.{bytesOf, decode, heldOf, powered, put};
 ghost use Rattle.thrandue.specs.Calls.{called, returns, calls, CallTold, poweredBy, phaseNumber, haltNumber};
 
@@ -19,11 +19,13 @@ use image::IMAGE;
 use requests::Judgement;
 use rules::Bridge;
 use rules::Dock;
+use rules::PageSize;
 use rules::Phase;
 use rules::Request;
 use rules::Setup;
 use rules::addresses::Address;
 use rules::answers;
+use settings::Reading;
 
 // What an event leaves in the image and returns.
 fn leave(image: &mut [u8; IMAGE], o: Outcome) -> u32
@@ -57,12 +59,24 @@ fn serve(
     bridge::serve(r, s, b, &mut image[0..16], host, memory, reply)
 }
 
+// An accepted store's page size replaces the number given.
+fn in_force(given: PageSize, reading: Reading) -> PageSize
+    ensures { λ r. ⌜ r ≡ inForce given reading ⌝ }
+{
+    if reading.answer == answers::DONE {
+        let settings = reading.settings;
+        return settings.page;
+    }
+    given
+}
+
 #[no_mangle]
-pub extern "C" fn thrandue_power_on(image: &mut [u8; IMAGE], bus_powered: bool) -> u32
-    ensures { λ r. ⌜ called r (now (image .exit)) [] [] ≡ called 0 (powered (byDefault (record { «bus_powered» = «bus_powered» }))) [] [] ⌝ }
+pub extern "C" fn thrandue_power_on(image: &mut [u8; IMAGE], bus_powered: bool, page: u32) -> u32
+    ensures { λ r. ⌜ called r (now (image .exit)) [] [] ≡ called 0 (powered (byDefault (docked «bus_powered» (pageOf page)))) [] [] ⌝ }
 {
     let dock = Dock {
         bus_powered: bus_powered,
+        page: PageSize::of(page),
     };
     image::power_on(image, dock);
     answers::DONE as u32
@@ -73,15 +87,17 @@ pub extern "C" fn thrandue_power_on(image: &mut [u8; IMAGE], bus_powered: bool) 
 pub extern "C" fn thrandue_power_on_with_store(
     image: &mut [u8; IMAGE],
     bus_powered: bool,
+    page: u32,
     store: &[u8],
 ) -> u32
-    ensures { λ r. ⌜ called r (now (image .exit)) [] [] ≡ poweredBy (record { «bus_powered» = «bus_powered» }) (readBy newest (now (store .entry))) ⌝ }
+    ensures { λ r. ⌜ called r (now (image .exit)) [] [] ≡ poweredBy (docked «bus_powered» (pageOf page)) (readBy newest (now (store .entry))) ⌝ }
 {
-    let dock = Dock {
-        bus_powered: bus_powered,
-    };
     let reading = settings::read(store);
     let bytes = reading.settings.bytes;
+    let dock = Dock {
+        bus_powered: bus_powered,
+        page: in_force(PageSize::of(page), reading),
+    };
     image::power_on_with(image, dock, &bytes);
     reading.answer as u32
 }

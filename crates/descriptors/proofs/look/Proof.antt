@@ -20,7 +20,7 @@ is-answered-requires c κs = search needs
 returns : tie.Need-returns
 returns c =
     let at = c .before .before .before .args in
-    not-answered (at .dock) (at .first) (at .memory .now) (at .value) (sym (c .before .is-answered .ensures) ∙ not-true _ (c .if1 .taken))
+    not-answered (at .bus-powered) (at .first) (at .memory .now) (at .value) (sym (c .before .is-answered .ensures) ∙ not-true _ (c .if1 .taken))
 
 place-requires : tie.Need-place-requires
 place-requires c κs = search needs
@@ -42,7 +42,7 @@ add-if2 c =
 returns-2 : tie.Need-returns-2
 returns-2 c =
     let at = c .before .before .before .before .before .before .before .args in
-    head-cut (at .dock) (at .first) (at .memory .now) (at .value)
+    head-cut (at .bus-powered) (at .first) (at .memory .now) (at .value)
     (sym (c .before .before .before .before .before .is-answered .ensures) ∙ not-false _ (c .before .before .before .before .if1 .left))
     (c .before .before .before .place .ensures) (c .before .before .number .ensures) (c .before .head-of .ensures) (c .if2 .taken)
 
@@ -63,7 +63,7 @@ cast-if3 c = search needs
 returns-3 : tie.Need-returns-3
 returns-3 c =
     let at = c .before .before .before .before .before .before .before .before .before .before .args in
-    no-head (at .dock) (at .first) (at .memory .now) (at .value)
+    no-head (at .bus-powered) (at .first) (at .memory .now) (at .value)
     (sym (c .before .before .before .before .before .before .before .before .is-answered .ensures) ∙ not-false _ (c .before .before .before .before .before .before .before .if1 .left))
     (c .before .before .before .before .before .before .place .ensures) (c .before .before .before .before .before .number .ensures) (c .before .before .before .before .head-of .ensures)
     (c .before .before .before .if2 .left) (c .before .before .length-at .ensures) (c .if3 .taken)
@@ -77,7 +77,7 @@ add-if4 c = search needs
 returns-4 : tie.Need-returns-4
 returns-4 c =
     let at = c .before .before .before .before .before .before .before .before .before .before .before .args in
-    cut (at .dock) (at .first) (at .memory .now) (at .value)
+    cut (at .bus-powered) (at .first) (at .memory .now) (at .value)
     (sym (c .before .before .before .before .before .before .before .before .before .is-answered .ensures) ∙ not-false _ (c .before .before .before .before .before .before .before .before .if1 .left))
     (c .before .before .before .before .before .before .before .place .ensures) (c .before .before .before .before .before .before .number .ensures) (c .before .before .before .before .before .head-of .ensures)
     (c .before .before .before .before .if2 .left) (c .before .before .before .length-at .ensures) (c .before .if3 .left) (c .if4 .taken)
@@ -85,7 +85,7 @@ returns-4 c =
 returns-5 : tie.Need-returns-5
 returns-5 c =
     let at = c .before .before .before .before .before .before .before .before .before .before .before .args in
-    there (at .dock) (at .first) (at .memory .now) (at .value)
+    there (at .bus-powered) (at .first) (at .memory .now) (at .value)
     (sym (c .before .before .before .before .before .before .before .before .before .is-answered .ensures) ∙ not-false _ (c .before .before .before .before .before .before .before .before .if1 .left))
     (c .before .before .before .before .before .before .before .place .ensures) (c .before .before .before .before .before .before .number .ensures) (c .before .before .before .before .before .head-of .ensures)
     (c .before .before .before .before .if2 .left) (c .before .before .before .length-at .ensures) (c .before .if3 .left) (c .if4 .left)

@@ -13,15 +13,15 @@ slice-aggregate-copy c = search needs
 copy-requires : tie.Need-copy-requires
 copy-requires c κs = search needs
 
-cast-image : tie.Need-cast-image
-cast-image c = search needs
+dock-byte-requires : tie.Need-dock-byte-requires
+dock-byte-requires c κs = search needs
 
 element-write-image : tie.Need-element-write-image
 element-write-image c = search needs
 
 returns : tie.Need-returns
 unfolding over
-returns c = rw (c .before .copy .ensures, c .before .before .before .power-on-bytes .ensures)
+returns c = rw (c .dock-byte .ensures, c .before .copy .ensures, c .before .before .before .power-on-bytes .ensures)
 
 pub power-on-spec : {M : Type 1} → statement M
 power-on-spec =
@@ -30,6 +30,6 @@ power-on-spec =
     power-on-bytes-requires
     slice-aggregate-copy
     copy-requires
-    cast-image
+    dock-byte-requires
     element-write-image
     returns)

@@ -6,9 +6,9 @@ use native.Mathlib.Omega.{arith}
 use lib.ListN.{length, replicate}
 use borrow.Author.Needs.{needs}
 use Rattle.rules.specs.declared.Dock.{Dock}
-use Rattle.rules.specs.Words.{one, over}
+use Rattle.rules.specs.Words.{over}
 use Rattle.rules.specs.Held.{powerOnBytes, starting, byDefault}
-use Rattle.image.specs.Image.{powered}
+use Rattle.image.specs.Image.{dockByte, powered}
 use Rattle.image.proofs.Rows.{over-front}
 use Rattle.image.proofs.power_on_with.Statement.{statement}
 use Rattle.image.proofs.power_on_with.Tie as tie
@@ -19,7 +19,7 @@ settled : (dock : Dock) (settings : List ℕ) {on after : List ℕ} → length s
 unfolding over
 settled dock settings h e copied =
     let front : List ℕ = powerOnBytes ++ replicate 13 0 in
-    let rest : List ℕ = one (dock .«bus_powered») ∷ replicate 32 0 in
+    let rest : List ℕ = dockByte dock ∷ replicate 32 0 in
     copied
     ∙ ap (λ (l : List ℕ). over l 2 settings) e
     ∙ over-front front rest 2 settings (omega arith)

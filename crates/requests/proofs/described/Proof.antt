@@ -32,10 +32,10 @@ enum-known-found-2 c = search needs
 
 returns-2 : tie.Need-returns-2
 returns-2 c =
-    let a = c .before .before .before .before .before .before .before .before .before .before .before .args in
-    let size = c .before .before .before .before .before .before .before .before .before .size-of .ensures in
+    let a = c .before .before .before .before .before .before .before .before .before .before .args in
+    let size = c .before .before .before .before .before .before .before .before .size-of .ensures in
     let looked = rw size at (c .before .before .before .before .look .ensures) in
-    sent (a .seen) (a .memory .now) (a .s) (a .host) (λ z. c .before .before .before .before .before .before .before .before .if1 .left (size ∙ z)) looked (c .before .before .found2 .given .1) (c .if2 .taken)
+    sent (a .seen) (a .memory .now) (a .s) (a .host) (λ z. c .before .before .before .before .before .before .before .if1 .left (size ∙ z)) looked (c .before .before .found2 .given .1) (c .if2 .taken)
 
 shorter-requires : tie.Need-shorter-requires
 shorter-requires c κs = search needs
@@ -43,22 +43,22 @@ shorter-requires c κs = search needs
 find-requires : tie.Need-find-requires
 find-requires c κs = search needs
 
-cast-t19 : tie.Need-cast-t19
-cast-t19 c = rw (c .find .ensures .bytes, length-take) (search needs)
+cast-t18 : tie.Need-cast-t18
+cast-t18 c = rw (c .find .ensures .bytes, length-take) (search needs)
 
 returns-3 : tie.Need-returns-3
 returns-3 c =
-    let a = c .before .before .before .before .before .before .before .before .before .before .args in
-    let size = c .before .before .before .before .before .before .before .before .size-of .ensures in
+    let a = c .before .before .before .before .before .before .before .before .before .args in
+    let size = c .before .before .before .before .before .before .before .size-of .ensures in
     let looked = rw size at (c .before .before .before .look .ensures) in
-    refused (a .seen) (a .memory .now) (a .s) (a .host) (λ z. c .before .before .before .before .before .before .before .if1 .left (size ∙ z)) looked (c .before .found .given .1)
+    refused (a .seen) (a .memory .now) (a .s) (a .host) (λ z. c .before .before .before .before .before .before .if1 .left (size ∙ z)) looked (c .before .found .given .1)
 
 returns-4 : tie.Need-returns-4
 returns-4 c =
-    let a = c .before .before .before .before .before .before .before .before .before .before .before .before .before .args in
-    let size = c .before .before .before .before .before .before .before .before .before .before .before .size-of .ensures in
+    let a = c .before .before .before .before .before .before .before .before .before .before .before .before .args in
+    let size = c .before .before .before .before .before .before .before .before .before .before .size-of .ensures in
     let looked = rw size at (c .before .before .before .before .before .before .look .ensures) in
-    tells (a .seen) (a .memory .now) (a .s) (a .host) (λ z. c .before .before .before .before .before .before .before .before .before .before .if1 .left (size ∙ z)) looked (c .before .before .before .before .found2 .given .1) (c .before .before .if2 .left)
+    tells (a .seen) (a .memory .now) (a .s) (a .host) (λ z. c .before .before .before .before .before .before .before .before .before .if1 .left (size ∙ z)) looked (c .before .before .before .before .found2 .given .1) (c .before .before .if2 .left)
     (rw (size, c .before .shorter .ensures) at (c .find .ensures .bytes))
 
 pub described-spec : {M : Type 1} → statement M
@@ -74,6 +74,6 @@ described-spec =
     returns-2
     shorter-requires
     find-requires
-    cast-t19
+    cast-t18
     returns-3
     returns-4)

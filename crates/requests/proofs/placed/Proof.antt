@@ -2,7 +2,7 @@
 use mathlib.Core.Path.{refl}
 use mathlib.Core.Bool.{true, false}
 use borrow.Author.Needs.{needs}
-use Rattle.rules.specs.Held.{sizeFor}
+use Rattle.rules.specs.Held.{sizeFor, pageBytes}
 use Rattle.rules.specs.Answers.{placeChecks, dataChecks}
 use Rattle.requests.proofs.Judging.{refused-by, left-to}
 use Rattle.requests.proofs.placed.Statement.{statement}
@@ -18,7 +18,7 @@ returns : tie.Need-returns
 returns c =
     let a = c .before .before .before .args in
     refused-by (a .r) (a .s)
-    (placeChecks false true (a .writes) (sizeFor (a .memory)) (a .s .value) (a .s .index) (a .s .length))
+    (placeChecks (pageBytes (a .page)) false true (a .writes) (sizeFor (a .memory)) (a .s .value) (a .s .index) (a .s .length))
     (dataChecks false (a .s) (a .host) (a .room)) refl
     (rw (c .before .before .size-of .ensures) at (c .before .address-answer .ensures)) (c .if1 .taken)
 
@@ -29,7 +29,7 @@ returns-2 : tie.Need-returns-2
 returns-2 c =
     let a = c .before .before .before .before .args in
     left-to (a .r) (a .s)
-    (placeChecks false true (a .writes) (sizeFor (a .memory)) (a .s .value) (a .s .index) (a .s .length))
+    (placeChecks (pageBytes (a .page)) false true (a .writes) (sizeFor (a .memory)) (a .s .value) (a .s .index) (a .s .length))
     (dataChecks false (a .s) (a .host) (a .room)) refl
     (rw (c .before .before .before .size-of .ensures) at (c .before .before .address-answer .ensures)) (c .before .if1 .left) (c .granted .ensures)
 

@@ -29,16 +29,16 @@ use Rattle.rules.proofs.Rows.{part-of-front}
 
 -- ---- the answer to Get Descriptor: 7, what the search comes to, and 2
 
-abbrev answerBy : Dock → StringIndex → List ℕ → ℕ → ℕ → ℕ
-answerBy dock first memory value host =
-    let f : ℕ = foremost (descriptorChecks true dock first (fitted memory) value) in
+abbrev answerBy : Bool → StringIndex → List ℕ → ℕ → ℕ → ℕ
+answerBy powered first memory value host =
+    let f : ℕ = foremost (descriptorChecks true powered first (fitted memory) value) in
     cond (eqb (sizeOf memory) 0) 7 (cond (eqb f 0) (cond (not (eqb host 0)) 2 0) f)
 
 sought : (w : World) (value language n host room : ℕ)
-    → requestAnswer (seenOf w) (w .memory) (wire 0x80 0x06 value language n) host room ≡ answerBy (w .bridge .dock) (firstString (w .bytes)) (w .memory) value host
+    → requestAnswer (seenOf w) (w .memory) (wire 0x80 0x06 value language n) host room ≡ answerBy (w .bridge .dock .«bus_powered») (firstString (w .bytes)) (w .memory) value host
 unfolding requestOf requestAnswer
 sought w value language n host room =
-    let checks : List Check = descriptorChecks true (w .bridge .dock) (firstString (w .bytes)) (fitted (w .memory)) value in
+    let checks : List Check = descriptorChecks true (w .bridge .dock .«bus_powered») (firstString (w .bytes)) (fitted (w .memory)) value in
     let end : List Check = dataChecks true (setupOf (wire 0x80 0x06 value language n)) host room in
     simp and-false
     (rw whole (ap (λ (x : ℕ). cond (eqb (sizeOf (w .memory)) 0) 7 x) (first-append checks end refl ∙ rw (le-ltb room 0 (omega arith)))))
@@ -48,7 +48,7 @@ sought w value language n host room =
 module _ (w : World) where
   -- the place that the rules give a type and an index
   abbrev start : ℕ → ℕ → ℕ
-  start type index = numberOf (placeOf (w .bridge .dock) (firstString (w .bytes)) type index)
+  start type index = numberOf (placeOf (w .bridge .dock .«bus_powered») (firstString (w .bytes)) type index)
 
   string-placed : (index : ℕ) → Place w 3 index (start 3 index)
   unfolding placeOf
@@ -215,7 +215,7 @@ module _ (w : World) (type index language n : ℕ) (small : index < 256) (host :
   unfolding step requestOf
   reply-by = rw (whole (256 * type + index), whole n, high type index small, low type index small)
 
-  stands-by : outcome .stands ≡ cond (done (outcome .answer)) (InMemory (placeOf (w .bridge .dock) (firstString (w .bytes)) type index)) InRoom
+  stands-by : outcome .stands ≡ cond (done (outcome .answer)) (InMemory (placeOf (w .bridge .dock .«bus_powered») (firstString (w .bytes)) type index)) InRoom
   unfolding step requestOf
   stands-by = rw (whole (256 * type + index), high type index small, low type index small)
 
@@ -304,10 +304,10 @@ what-stands-is-there w (Control setup host room) place h = go (done n) refl (req
     n = requestAnswer (seenOf w) (w .memory) setup (length host) room
 
     k : ℕ
-    k = numberOf (placeIn (w .bridge .dock) (firstString (w .bytes)) (s .value))
+    k = numberOf (placeIn (w .bridge .dock .«bus_powered») (firstString (w .bytes)) (s .value))
 
     long : ℕ
-    long = lengthIn (w .bridge .dock) (firstString (w .bytes)) (fitted (w .memory)) (s .value)
+    long = lengthIn (w .bridge .dock .«bus_powered») (firstString (w .bytes)) (fitted (w .memory)) (s .value)
 
     go : (t : Bool) → done n ≡ t → (q : Named) → requestOf s ≡ q → cond t (standing q s w) InRoom ≡ InMemory (at place)
         → There place (cond t (replyTo q s w) []) (cond t (memoryAfter q s host (w .memory)) (w .memory))

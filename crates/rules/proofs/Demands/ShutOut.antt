@@ -7,8 +7,9 @@ use native.Mathlib.Omega.{arith}
 use lib.Dec.{eqb}
 use lib.ListN.{length}
 use Rattle.rules.specs.declared.Dock.{Dock}
+use Rattle.rules.specs.declared.PageSize.the-variants.{Of256}
 use Rattle.rules.specs.Words.{over}
-use Rattle.rules.specs.Held.{World, Start, byDefault, isAwaiting}
+use Rattle.rules.specs.Held.{World, Start, docked, byDefault, isAwaiting}
 use Rattle.rules.specs.Requests.{requestOf, address, onePage}
 use Rattle.rules.specs.Packets.{valid, meaningful, recognised}
 use Rattle.rules.specs.Operations.{operationsOf}
@@ -22,7 +23,7 @@ use Rattle.rules.specs.Demands.ShutOut.{performsFirst, ShutOut}
 
 -- any dock will do
 abbrev dock : Dock
-dock = record { «bus_powered» = false }
+dock = docked false Of256
 
 abbrev start : Start
 start = byDefault dock

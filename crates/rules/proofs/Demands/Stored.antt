@@ -1,24 +1,27 @@
 -- Bytes that are there are read, and bytes that were written are the bytes that are read.
-use mathlib.Core.Path.{_≡_, refl, ap, _∙_}
+use mathlib.Core.Path.{_≡_, refl, sym, ap, _∙_}
 use mathlib.Core.Logic.{_⊎_, inl, inr}
 use mathlib.Core.Bool.{Bool, true, false, cond, not, _&&_, _||_, true≢false, and-eq-true-iff, or-false}
 use mathlib.Core.List.{List, [], _∷_}
 use Prim.Native.Nat.{ℕ, zero, suc, _+_, _-_, _*_, _/_, _%_, _<_, _≤_}
+use native.Mathlib.Nat.{div-add-mod, mod-eq-of-lt, mod-mod-of-dvd, mul-add-mod-self-left, mul-mod-right}
 use native.Mathlib.Omega.{arith}
 use lib.ListN.{length, take, drop}
 use lib.Dec.{eqb, leb, ltb}
 use borrow.Author.Tests.{ltb-true, eqb-true, leb-true, eq-eqb, ne-eqb, lt-ltb, le-ltb, le-leb, not-false}
+use Rattle.rules.specs.declared.PageSize.{PageSize}
 use Rattle.rules.specs.Words.{over}
-use Rattle.rules.specs.Held.{World, world, holding, sizeOf}
+use Rattle.rules.specs.Held.{World, pageBytes, world, holding, sizeOf}
 use Rattle.rules.specs.Requests.{requestOf, inBytes, inMemory, address, atEight, onePage, storeOf}
 use Rattle.rules.specs.Answers.{seenOf, requestAnswer}
 use Rattle.rules.specs.Step.{Control, change, step, rules}
 use Rattle.rules.specs.Demands.Requests.{wire, asking}
-use Rattle.rules.specs.Demands.Coherence.{ReadWasThere, Replies, rowOf, ThereIsRead, WrittenIsRead, WritableIsWritten, WrittenWasWritable}
+use Rattle.rules.specs.Demands.Coherence.{ReadWasThere, Replies, pageIn, rowOf, ThereIsRead, WrittenIsRead, WritableIsWritten, WrittenWasWritable}
 use Rattle.rules.proofs.Checks.{request-passed}
 use Rattle.rules.proofs.Demands.Requests.{whole}
 use Rattle.rules.proofs.Replies.{inside}
 use Rattle.rules.proofs.Rows.{over-length}
+use Rattle.rules.proofs.Pages.{eights-in, some-bytes, within-page}
 
 -- ---- reads
 
@@ -83,7 +86,7 @@ record Wrote (w : World) (place start : ℕ) (host : List ℕ) (room : ℕ) : Ty
   fitted : (inMemory place && eqb (sizeOf (w .memory)) 0) ≡ false
   inside : address true (sizeOf (w .memory)) place start (length host) ≡ true
   eight : (inMemory place && not (atEight start)) ≡ false
-  page : (inMemory place && not (onePage start (length host))) ≡ false
+  page : (inMemory place && not (onePage (pageIn w) start (length host))) ≡ false
   next : step w (Control (wire 0x40 0x01 place start (length host)) host room) .next
       ≡ holding (w .held)
       (world (w .bridge) (cond (not (inMemory place)) (over (w .bytes) start host) (w .bytes))
@@ -146,7 +149,7 @@ written-is-read w place start host room sixteen a = rw (k .next) (go (inMemory p
 -- a write is accepted where no check of its place applies
 pub writes : (w : World) (place start : ℕ) (host : List ℕ) → w .bridge .configured ≡ true → (inBytes place || inMemory place) ≡ true
     → (inMemory place && eqb (sizeOf (w .memory)) 0) ≡ false → address true (sizeOf (w .memory)) place start (length host) ≡ true
-    → (inMemory place && not (atEight start)) ≡ false → (inMemory place && not (onePage start (length host))) ≡ false
+    → (inMemory place && not (atEight start)) ≡ false → (inMemory place && not (onePage (pageIn w) start (length host))) ≡ false
     → step w (Control (wire 0x40 0x01 place start (length host)) host 0) .answer ≡ 0
 unfolding step requestOf requestAnswer
 writes w place start host c p f a e g =
@@ -154,33 +157,33 @@ writes w place start host c p f a e g =
     rw (c, whole place, whole start, whole n, p, f, a, e, g, eq-eqb n n refl)
 
 pub writable-is-written : WritableIsWritten rules
-unfolding address onePage
+unfolding address
 writable-is-written w host start page row c some = (
   λ l h. writes w 0x0000 start host c refl refl (rw (le-leb 2 start l, le-leb start 15 (omega arith), le-leb (start + length host) 16 h)) refl refl,
   λ l h.
       let n : ℕ = length host in
       let m : ℕ = sizeOf (w .memory) in
-      let at : ℕ = rowOf page row in
-      let first : (256 * page + 8 * row) / 256 ≡ page = omega arith in
-      let last : (256 * page + 8 * row + length host - 1) / 256 ≡ page = omega arith in
-      let eights : (256 * page + 8 * row) % 8 ≡ 0 = omega arith in
+      let size : ℕ = pageIn w in
+      let at : ℕ = rowOf size page row in
+      let inner : at % size ≡ 8 * row = mul-add-mod-self-left size page (8 * row) ∙ mod-eq-of-lt (omega arith) in
+      let eights : at % 8 ≡ 0 = sym (mod-mod-of-dvd 8 at (eights-in (w .bridge .dock .page))) ∙ rw inner (mul-mod-right 8 row) in
       writes w 0x0002 at host c refl (ne-eqb m 0 (λ z. omega arith))
       (rw (lt-ltb at m (omega arith), le-leb (at + n) m h))
       (rw eights)
-      (rw (ne-eqb n 0 (λ z. omega arith), first, last, eq-eqb page page refl)),
+      (rw (within-page size at n (some-bytes (w .bridge .dock .page)), inner, le-leb (8 * row + n) size l)),
 )
 
--- a start at a multiple of eight, its first and last byte in one page, by its page and its row of eight
-rowed : (start n : ℕ) → start % 8 ≡ 0 → start / 256 ≡ (start + n - 1) / 256 → 0 < n
-    → (start ≡ rowOf (start / 256) (start % 256 / 8)) × (8 * (start % 256 / 8) + n ≤ 256)
-rowed start n e p some =
-    let rows : 8 * (start % 256 / 8) ≡ start % 256 = omega arith in
-    let pages : start ≡ 256 * (start / 256) + start % 256 = omega arith in
-    let last : start + n - 1 < 256 * ((start + n - 1) / 256) + 256 = omega arith in
-    (omega arith, omega arith)
+-- a start at a multiple of eight, by its page and its row of eight there
+rowed : (page : PageSize) (start : ℕ) → start % 8 ≡ 0
+    → (start ≡ rowOf (pageBytes page) (start / pageBytes page) (start % pageBytes page / 8)) × (8 * (start % pageBytes page / 8) ≡ start % pageBytes page)
+rowed page start e =
+    let size : ℕ = pageBytes page in
+    let eights : start % size % 8 ≡ 0 = mod-mod-of-dvd 8 start (eights-in page) ∙ e in
+    let rows : 8 * (start % size / 8) ≡ start % size = omega arith in
+    (omega (arith, div-add-mod start size), rows)
 
 pub written-was-writable : WrittenWasWritable rules
-unfolding address onePage
+unfolding address
 written-was-writable w place start host room some a = go (inMemory place) refl (k .placed) (k .inside) (k .eight) (k .page)
   where
     k : Wrote w place start host room
@@ -192,18 +195,18 @@ written-was-writable w place start host room some a = go (inMemory place) refl (
     m : ℕ
     m = sizeOf (w .memory)
 
-    page : (t : Bool) → eqb (length host) 0 ≡ t → (u : Bool) → not (t || u) ≡ false → u ≡ true
-    page true e u h = absurd (let z = eqb-true n 0 e in omega arith)
-    page false e u h = not-false u h
+    size : ℕ
+    size = pageIn w
 
     go : (t : Bool) → inMemory place ≡ t → (inBytes place || t) ≡ true
         → cond t (ltb start m && leb (start + n) m) (leb 2 start && leb start 15 && leb (start + n) 16) ≡ true
-        → (t && not (atEight start)) ≡ false → (t && not (onePage start n)) ≡ false
+        → (t && not (atEight start)) ≡ false → (t && not (onePage size start n)) ≡ false
         → ((place ≡ 0x0000) × (2 ≤ start) × (start + n ≤ 16))
-        ⊎ ((place ≡ 0x0002) × ((page : ℕ) × (row : ℕ) × (start ≡ rowOf page row) × (8 * row + n ≤ 256) × (start + n ≤ m)))
+        ⊎ ((place ≡ 0x0002) × ((page : ℕ) × (row : ℕ) × (start ≡ rowOf size page row) × (8 * row + n ≤ size) × (start + n ≤ m)))
     go true e p i eights pages =
-        let r = rowed start n (eqb-true _ 0 (not-false (atEight start) eights)) (eqb-true _ _ (page (eqb n 0) refl _ pages)) some in
-        inr (eqb-true place 2 e, (start / 256, start % 256 / 8, r .0, r .1, leb-true (start + n) m (and-eq-true-iff (ltb start m) _ .0 i .1)))
+        let r = rowed (w .bridge .dock .page) start (eqb-true _ 0 (not-false (atEight start) eights)) in
+        let l = leb-true _ size (sym (within-page size start n (some-bytes (w .bridge .dock .page))) ∙ not-false _ pages) in
+        inr (eqb-true place 2 e, (start / size, start % size / 8, r .0, omega (arith, r .1), leb-true (start + n) m (and-eq-true-iff (ltb start m) _ .0 i .1)))
     go false e p i eights pages =
         let b = and-eq-true-iff (leb 2 start && leb start 15) (leb (start + n) 16) .0 i in
         let c = and-eq-true-iff (leb 2 start) (leb start 15) .0 (b .0) in

@@ -11,7 +11,7 @@ use Rattle.rules.specs.declared.Direction.the-variants.{Out, In}
 use Rattle.rules.specs.declared.Dock.{Dock}
 use Rattle.rules.specs.declared.Phase.the-variants.{Awaiting}
 use Rattle.rules.specs.Words.{byte, word, one}
-use Rattle.rules.specs.Held.{World, Start, world, starting, byDefault, isStopped}
+use Rattle.rules.specs.Held.{World, Start, pageBytes, world, starting, byDefault, isStopped}
 use Rattle.rules.specs.Step.{Event, BusReset, Control, Packet, Report, StatusRequest, Burst, EndMark, Outcome, Machine, after, reached, done}
 use Rattle.rules.specs.Demands.Refusals.{damages}
 use Rattle.rules.specs.Demands.Requests.{wire, asking, ordering}
@@ -190,25 +190,31 @@ WrittenIsRead m =
     → (let write : Outcome (m .State) = m .takes s (Control (wire 0x40 0x01 place start (length host)) host room) in
     write .answer ≡ 0 → Replies (m .takes (write .next) (asking 0xC0 0x02 place start (length host))) host)
 
--- A write of one byte or more is accepted from address 2 on among the sixteen, and within a page of the memory from a multiple of eight on.
-abbrev pub rowOf : ℕ → ℕ → ℕ
-rowOf page row = 256 * page + 8 * row
+-- A write of one byte or more is accepted from address 2 on among the sixteen, and within a page of the memory, of the size in force, from a multiple of
+-- eight on.
+abbrev pub pageIn : World → ℕ
+pageIn w = pageBytes (w .bridge .dock .page)
+
+abbrev pub rowOf : ℕ → ℕ → ℕ → ℕ
+rowOf size page row = size * page + 8 * row
 
 abbrev pub WritableIsWritten : Machine → Type 0
 WritableIsWritten m =
     (s : m .State) (host : List ℕ) (start page row : ℕ) → m .shows s .bridge .configured ≡ true → 0 < length host
     → (let write : ℕ → ℕ → ℕ = λ place start. m .takes s (Control (wire 0x40 0x01 place start (length host)) host 0) .answer in
+    let at : ℕ = rowOf (pageIn (m .shows s)) page row in
     (2 ≤ start → start + length host ≤ 16 → write 0x0000 start ≡ 0)
-    × (8 * row + length host ≤ 256 → rowOf page row + length host ≤ min (length (m .shows s .memory)) 2048 → write 0x0002 (rowOf page row) ≡ 0))
+    × (8 * row + length host ≤ pageIn (m .shows s) → at + length host ≤ min (length (m .shows s .memory)) 2048 → write 0x0002 at ≡ 0))
 
 -- .. and none is accepted that is not so.
 abbrev pub WrittenWasWritable : Machine → Type 0
 WrittenWasWritable m =
     (s : m .State) (place start : ℕ) (host : List ℕ) (room : ℕ) → 0 < length host
     → m .takes s (Control (wire 0x40 0x01 place start (length host)) host room) .answer ≡ 0
-    → ((place ≡ 0x0000) × (2 ≤ start) × (start + length host ≤ 16))
+    → (let size : ℕ = pageIn (m .shows s) in
+    ((place ≡ 0x0000) × (2 ≤ start) × (start + length host ≤ 16))
     ⊎ ((place ≡ 0x0002)
-    × ((page : ℕ) × (row : ℕ) × (start ≡ rowOf page row) × (8 * row + length host ≤ 256) × (start + length host ≤ min (length (m .shows s .memory)) 2048)))
+    × ((page : ℕ) × (row : ℕ) × (start ≡ rowOf size page row) × (8 * row + length host ≤ size) × (start + length host ≤ min (length (m .shows s .memory)) 2048))))
 
 -- ---- a command, from its packet to its status packet
 

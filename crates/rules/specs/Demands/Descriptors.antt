@@ -82,13 +82,13 @@ FirstStringIsNamed m =
     → (let named : ℕ = byte 0x0E (m .shows s .bytes) in
     0 < named → named < 256 → m .takes s (wanting 3 0 language n host room) ≡ m .takes s (wanting 3 named language n host room))
 
--- Nothing of the configuration, the phase or the halts enters its answer, nor wIndex, nor the room; of the configuration bytes 0x0E alone.
+-- Nothing of the configuration, the phase or the halts enters its answer, nor the page size, wIndex or the room; of the configuration bytes 0x0E alone.
 abbrev pub NothingElseEnters : Machine → Type 0
 NothingElseEnters m =
     (s t : m .State) (type index language language' n : ℕ) (host : List ℕ) (room room' : ℕ)
     → (let o : Outcome (m .State) = m .takes s (wanting type index language n host room) in
     let p : Outcome (m .State) = m .takes t (wanting type index language' n host room') in
-    m .shows s .bridge .dock ≡ m .shows t .bridge .dock → byte 0x0E (m .shows s .bytes) ≡ byte 0x0E (m .shows t .bytes)
+    m .shows s .bridge .dock .«bus_powered» ≡ m .shows t .bridge .dock .«bus_powered» → byte 0x0E (m .shows s .bytes) ≡ byte 0x0E (m .shows t .bytes)
     → m .shows s .memory ≡ m .shows t .memory
     → (o .answer ≡ p .answer) × (o .reply ≡ p .reply) × (o .stands ≡ p .stands))
 

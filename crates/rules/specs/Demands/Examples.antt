@@ -2,13 +2,13 @@
 use mathlib.Core.Path.{_≡_}
 use mathlib.Core.Bool.{Bool, true, false, not, _&&_}
 use mathlib.Core.List.{List, [], _∷_}
-use Prim.Native.Nat.{ℕ}
+use Prim.Native.Nat.{ℕ, _-_}
 use lib.ListN.{length, replicate}
 use lib.Dec.{eqb}
 use Rattle.rules.specs.declared.Dock.{Dock}
 use Rattle.rules.specs.declared.Phase.{Phase}
 use Rattle.rules.specs.declared.Phase.the-variants.{Awaiting, Busy, StatusWaiting, Stopped}
-use Rattle.rules.specs.Held.{World, byDefault, bulkOut, bulkIn}
+use Rattle.rules.specs.Held.{World, pageBytes, byDefault, bulkOut, bulkIn}
 use Rattle.rules.specs.Step.{Event, Control, Packet, Report, StatusRequest, Outcome, Machine, after, reached}
 use Rattle.rules.specs.Demands.Requests.{wire, ordering}
 use Rattle.rules.specs.Demands.Boundary.{unbroken, boundary, keptWrites}
@@ -72,13 +72,14 @@ pub record Example : Type 0 where
 abbrev pub example : List Event → Event → (Outcome World → Bool) → Example
 example es e f = record { before = es; event = e; wants = f }
 
-abbrev pub table : List Example
-table =
+-- "Answer 10 and its example table use the size in force": with pages of 256 its two writes start at 248, as document 01 has them
+abbrev pub table : ℕ → List Example
+table page =
     example [] (write 0 2 14) (answers 0) ∷
     example [] (write 0 2 15) (answers 8) ∷
     example [] (write 0 0x0102 1) (answers 8) ∷
-    example [] (write 2 248 8) (answers 0) ∷
-    example [] (write 2 248 9) (answers 10) ∷
+    example [] (write 2 (page - 8) 8) (answers 0) ∷
+    example [] (write 2 (page - 8) 9) (answers 10) ∷
     example [] (write 2 4 1) (answers 9) ∷
     example [] (write 2 2048 0) (answers 8) ∷
     example [] (write 2 2040 8) (answers 0) ∷
@@ -93,7 +94,7 @@ right m dock [] = true
 right m dock (x ∷ xs) = (x .wants) (shown m (m .takes (after m (ready m dock) (x .before)) (x .event))) && right m dock xs
 
 abbrev pub Examples : Machine → Type 0
-Examples m = (dock : Dock) → right m dock table ≡ true
+Examples m = (dock : Dock) → right m dock (table (pageBytes (dock .page))) ≡ true
 
 -- ---- Demand 3 is not empty: a damaged packet, then a status request, a vendor write, Clear Feature too early, a packet, a Mass Storage Reset,
 -- one pipe, a second reset, the same pipe again, none of them the boundary; then the other pipe, which is; and the next command is done.

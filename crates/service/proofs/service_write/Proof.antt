@@ -7,8 +7,8 @@ use borrow.Author.Needs.{needs}
 use Rattle.service.proofs.service_write.Statement.{statement}
 use Rattle.service.proofs.service_write.Tie as tie
 
-settings-at-requires : tie.Need-settings-at-requires
-settings-at-requires c κs = search needs
+settings-of-requires : tie.Need-settings-of-requires
+settings-of-requires c κs = search needs
 
 write-requires : tie.Need-write-requires
 write-requires c κs = search needs
@@ -21,7 +21,7 @@ same-length c = search needs
 
 returns : tie.Need-returns
 returns c =
-    let s = c .before .before .before .before .before .settings-at in
+    let s = c .before .before .before .before .before .settings-of in
     let room = c .before .before .before .before .before .before .before .args .room .now in
     not-written (s .result) room (c .before .before .before .write .ensures) (c .if1 .taken) ∙ ap (λ (s : Settings). lays s room) (s .ensures)
 
@@ -36,7 +36,7 @@ same-length-2 c = search needs
 
 returns-2 : tie.Need-returns-2
 returns-2 c =
-    let s = c .before .before .before .before .before .settings-at in
+    let s = c .before .before .before .before .before .settings-of in
     let room = c .before .before .before .before .before .before .before .args .room .now in
     is-written (s .result) room (c .before .before .before .write .ensures) (c .if1 .left) ∙ ap (λ (s : Settings). lays s room) (s .ensures)
 
@@ -44,7 +44,7 @@ pub service-write-spec : {M : Type 1} → statement M
 service-write-spec =
     tie.close
     (tie.spec
-    settings-at-requires
+    settings-of-requires
     write-requires
     cast-result
     same-length

@@ -29,6 +29,9 @@ slice-aggregate-copy-2 c = search needs
 copy-requires : tie.Need-copy-requires
 copy-requires c κs = search needs
 
+last-for-requires : tie.Need-last-for-requires
+last-for-requires c κs = search needs
+
 sub-made : tie.Need-sub-made
 sub-made c = search needs
 
@@ -36,7 +39,9 @@ array-write-made-4 : tie.Need-array-write-made-4
 array-write-made-4 c = search needs
 
 returns : tie.Need-returns
-returns c = made (c .before .before .before .before .before .args .settings) (sym (slice-aggregate-copy-2 (c .before .before))) (c .before .copy .ensures)
+returns c =
+    made (c .before .before .before .before .before .before .args .settings) (sym (slice-aggregate-copy-2 (c .before .before .before)))
+    (c .before .before .copy .ensures) (c .last-for .ensures)
 
 pub record-of-spec : {M : Type 1} → statement M
 record-of-spec =
@@ -50,6 +55,7 @@ record-of-spec =
     slice-aggregate-copy
     slice-aggregate-copy-2
     copy-requires
+    last-for-requires
     sub-made
     array-write-made-4
     returns)

@@ -3,7 +3,7 @@ use mathlib.Core.Path.{refl, sym, _∙_}
 use native.Mathlib.Omega.{arith}
 use borrow.Author.Needs.{needs}
 use Rattle.settings.specs.Store.{newest}
-use Rattle.settings.proofs.Taking.{eighteen, plain-there, nineteen, keeping-there}
+use Rattle.settings.proofs.Taking.{eighteen, plain-there, nineteen, paged-there}
 use Rattle.settings.proofs.settings_in.Statement.{statement}
 use Rattle.settings.proofs.settings_in.Tie as tie
 
@@ -34,13 +34,16 @@ shared-slice-read-word-2 c = let start = c .before .before .before .before .befo
 word-requires : tie.Need-word-requires
 word-requires c κs = search needs
 
-add-kept : tie.Need-add-kept
-add-kept c = search needs
+add-page-from : tie.Need-add-page-from
+add-page-from c = search needs
 
-shared-slice-read-kept : tie.Need-shared-slice-read-kept
-shared-slice-read-kept c =
+shared-slice-read-page-from : tie.Need-shared-slice-read-page-from
+shared-slice-read-page-from c =
     let start = c .before .before .before .before .before .before .before .before .before .before in
     nineteen newest (start .args .store .now) (start .pre) (λ e. c .before .if1 .left (c .before .before .word .ensures ∙ e))
+
+page-from-requires : tie.Need-page-from-requires
+page-from-requires c κs = search needs
 
 returns : tie.Need-returns
 returns c =
@@ -49,8 +52,9 @@ returns c =
 
 returns-2 : tie.Need-returns-2
 returns-2 c =
-    let start = c .before .before .before .before .before .before .before .before .before .before in
-    keeping-there newest (start .args .store .now) (start .pre) (λ e. c .before .if1 .left (c .before .before .word .ensures ∙ e)) _ refl (c .before .before .before .before .before .before .copy .ensures)
+    let start = c .before .before .before .before .before .before .before .before .before .before .before in
+    paged-there newest (start .args .store .now) (start .pre) (λ e. c .before .before .if1 .left (c .before .before .before .word .ensures ∙ e)) _ refl
+    (c .before .before .before .before .before .before .before .copy .ensures) (c .page-from .ensures)
 
 pub settings-in-spec : {M : Type 1} → statement M
 settings-in-spec =
@@ -65,7 +69,8 @@ settings-in-spec =
     shared-slice-read-word
     shared-slice-read-word-2
     word-requires
-    add-kept
-    shared-slice-read-kept
+    add-page-from
+    shared-slice-read-page-from
+    page-from-requires
     returns
     returns-2)

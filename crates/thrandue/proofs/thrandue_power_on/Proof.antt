@@ -3,6 +3,9 @@ use borrow.Author.Needs.{needs}
 use Rattle.thrandue.proofs.thrandue_power_on.Statement.{statement}
 use Rattle.thrandue.proofs.thrandue_power_on.Tie as tie
 
+of-requires : tie.Need-of-requires
+of-requires c κs = search needs
+
 power-on-requires : tie.Need-power-on-requires
 power-on-requires c κs = search needs
 
@@ -10,7 +13,7 @@ cast-result : tie.Need-cast-result
 cast-result c = search needs
 
 returns : tie.Need-returns
-returns c = rw (c .power-on .ensures)
+returns c = rw (c .power-on .ensures, c .before .before .of .ensures)
 
 pub thrandue-power-on-spec : {M : Type 1} → statement M
-thrandue-power-on-spec = tie.close (tie.spec power-on-requires cast-result returns)
+thrandue-power-on-spec = tie.close (tie.spec of-requires power-on-requires cast-result returns)

@@ -6,6 +6,12 @@ use Rattle.thrandue.proofs.thrandue_power_on_with_store.Tie as tie
 read-requires : tie.Need-read-requires
 read-requires c κs = search needs
 
+of-requires : tie.Need-of-requires
+of-requires c κs = search needs
+
+in-force-requires : tie.Need-in-force-requires
+in-force-requires c κs = search needs
+
 power-on-with-requires : tie.Need-power-on-with-requires
 power-on-with-requires c κs = search needs
 
@@ -13,7 +19,15 @@ cast-result : tie.Need-cast-result
 cast-result c = search needs
 
 returns : tie.Need-returns
-returns c = rw (c .before .power-on-with .ensures, c .before .before .before .before .before .read .ensures)
+returns c = rw (c .before .power-on-with .ensures, c .before .before .before .before .in-force .ensures, c .before .before .before .before .before .of .ensures, c .before .before .before .before .before .before .before .read .ensures)
 
 pub thrandue-power-on-with-store-spec : {M : Type 1} → statement M
-thrandue-power-on-with-store-spec = tie.close (tie.spec read-requires power-on-with-requires cast-result returns)
+thrandue-power-on-with-store-spec =
+    tie.close
+    (tie.spec
+    read-requires
+    of-requires
+    in-force-requires
+    power-on-with-requires
+    cast-result
+    returns)
