@@ -2,6 +2,7 @@
 #include "bench.h"
 #include "command.h"
 #include "layout.h"
+#include "second_page.h"
 
 #include <stdio.h>
 #include <string.h>
@@ -10,8 +11,9 @@ static const char help[] =
     "[OPTION..] FILE [[OPTION..] FILE..]\n"
     "Replays sessions and prints how often each event, the control\n"
     "requests one by one, met each answer in each phase before it, - where the paper allows\n"
-    "none, and how often with something held; and how often a power-on met each number of a\n"
-    "store.\n"
+    "none, and how often with something held; how often a power-on met each number of a store;\n"
+    "and how often a memory write was done, or crossed a page, at the end of one, by where the\n"
+    "page size came from.\n"
     "The options hold for the files after them:\n" BENCH_OPTIONS_HELP
     "Status 0: all is allowed, and met 100 times or more; 1: it is not, a call changed what it\n"
     "must leave alone, or a session is torn; 2: bad usage, or a file that cannot be read.\n";
@@ -20,7 +22,8 @@ enum {
     PHASES = 5,
     ANSWERS = UINT8_MAX + 1,
     LEAST = 100,
-    SETTINGS_BYTES = 14
+    SETTINGS_BYTES = 14,
+    PAGE_BYTES = 1
 };
 
 enum event {
@@ -177,11 +180,28 @@ enum {
     SELECTS = 64
 };
 
+/* Where a page size came from: a number given at power-on, or a store that replaced it. */
+enum page {
+    PAGE_32,
+    PAGE_64,
+    PAGE_128,
+    PAGE_256,
+    PAGE_OTHER,
+    PAGE_OF_STORE,
+    PAGES
+};
+
+static const char *const page_names[PAGES] = {"32 given",  "64 given",      "128 given",
+                                              "256 given", "another given", "a store's"};
+
 struct coverage {
     struct bench bench;
     struct bench before;
     unsigned long counts[EVENTS][ANSWERS][PHASES];
     unsigned long selects[SELECTS];
+    /* How often a memory write at the end of a page was done, and how often it crossed it. */
+    unsigned long page_ends[PAGES][2];
+    enum page page; /* of the session */
     /* How often something was held before it, and how often a burst left so much held. */
     unsigned long holding[EVENTS][ANSWERS];
     unsigned long held[THRANDUE_HELD_TOO_LONG + 1];
@@ -343,6 +363,18 @@ static bool keeps_the_rest(const struct coverage *coverage, const struct record 
            same_from(0, bench_payload(bench, record), record->payload, record->length);
 }
 
+/* At the end of a page is a write that ends with it and is done, or that goes a byte beyond and
+ * crosses it; with a store's page size, one that the number given would have answered otherwise. */
+static void count_page_end(struct coverage *coverage, const uint8_t *setup, uint8_t answer) {
+    uint32_t page = second_page(coverage->bench.options.page);
+    uint32_t end = record_load(setup + 4, 2) % page + record_load(setup + 6, 2);
+    bool crosses = answer == THRANDUE_CROSSES_PAGE;
+    if (record_load(setup + 2, 2) != PLACE_MEMORY || (answer != THRANDUE_DONE && !crosses))
+        return;
+    if (coverage->page == PAGE_OF_STORE ? crosses != (end > page) : end == page + crosses)
+        coverage->page_ends[coverage->page][crosses]++;
+}
+
 static void count_event(void *context, const struct record *record) {
     struct coverage *coverage = context;
     enum event event = event_of(record);
@@ -355,6 +387,8 @@ static void count_event(void *context, const struct record *record) {
     coverage->held[thrandue_held(coverage->bench.image)] += event == BURST;
     if (event == PACKET && thrandue_count(outcome) != 0)
         coverage->selects[select_of(record->payload + PACKET_BLOCK)]++;
+    if (event == LOAD_CONFIG_DATA)
+        count_page_end(coverage, record->payload, answer);
     if (keeps_the_rest(coverage, record, event, outcome))
         return;
     coverage->faults++;
@@ -362,16 +396,33 @@ static void count_event(void *context, const struct record *record) {
                 (unsigned)answer, phase_names[phase]);
 }
 
-/* A store changes fourteen bytes of the image that a power-on without it makes, and no more; one
- * that is refused changes none. */
+static enum page page_given(uint32_t page) {
+    switch (page) {
+    case 32:
+        return PAGE_32;
+    case 64:
+        return PAGE_64;
+    case 128:
+        return PAGE_128;
+    case 256:
+        return PAGE_256;
+    default:
+        return PAGE_OTHER;
+    }
+}
+
+/* A store changes, of the image that a power-on without it makes, fourteen bytes and the one with
+ * the page size, and no more; one that is refused changes none. */
 static void power_on(struct coverage *coverage, struct bench_options options) {
     uint8_t answer = bench_open(&coverage->bench, options);
+    bool stored = options.store != NULL && answer == THRANDUE_DONE;
+    coverage->page = stored ? PAGE_OF_STORE : page_given(options.page);
     if (options.store != NULL)
         coverage->counts[POWER_ON][answer][thrandue_phase(coverage->bench.image)]++;
     options.store = NULL;
     bench_open(&coverage->before, options);
     size_t changed = differing(coverage->bench.image, coverage->before.image);
-    if (changed <= (answer == THRANDUE_DONE ? SETTINGS_BYTES : 0))
+    if (changed <= (stored ? SETTINGS_BYTES + PAGE_BYTES : 0))
         return;
     coverage->faults++;
     command_say("power-on, answer %u: changed what it must leave alone", (unsigned)answer);
@@ -434,6 +485,15 @@ static void judge_selects(struct coverage *coverage) {
     }
 }
 
+static void judge_pages(struct coverage *coverage) {
+    for (unsigned page = 0; page < PAGES; page++) {
+        if (coverage->page_ends[page][0] >= LEAST && coverage->page_ends[page][1] >= LEAST)
+            continue;
+        coverage->faults++;
+        command_say("a page's end, page size %s: met too seldom", page_names[page]);
+    }
+}
+
 static void print_row(const struct coverage *coverage, enum event event, uint8_t answer,
                       uint8_t phases) {
     printf("%-18s %6u", event_names[event], (unsigned)answer);
@@ -454,6 +514,10 @@ static void print_table(const struct coverage *coverage) {
     printf(" %11s\n", "holding");
     for (size_t i = 0; i < ROWS; i++)
         print_row(coverage, allowed[i].event, allowed[i].answer, allowed[i].phases);
+    printf("%-18s %6s %11s\n", "page size", "0", "10");
+    for (unsigned page = 0; page < PAGES; page++)
+        printf("%-18s %6lu %11lu\n", page_names[page], coverage->page_ends[page][0],
+               coverage->page_ends[page][1]);
 }
 
 static int conclude(struct coverage *coverage) {
@@ -463,6 +527,7 @@ static int conclude(struct coverage *coverage) {
             judge(coverage, (enum event)event, (uint8_t)answer);
     judge_bursts(coverage);
     judge_selects(coverage);
+    judge_pages(coverage);
     return command_end(coverage->faults == 0 ? EXIT_FINE : EXIT_REFUSED);
 }
 

@@ -3,6 +3,7 @@
 #include "command.h"
 #include "layout.h"
 #include "random.h"
+#include "second_page.h"
 
 #include <stdio.h>
 #include <string.h>
@@ -23,7 +24,6 @@ enum {
     SELF_POWERED_AT = 0x80,
     WRITE_ALIGNMENT = 8,
     MEMORY_MOST = 2048,
-    PAGE = 256,
     REGISTERS_READ = 8,
     TORN_PAYLOAD_MOST = 16
 };
@@ -101,13 +101,22 @@ static uint32_t fitted_memory(const struct generator *g) {
     return fitted == 0 || fitted > MEMORY_MOST ? MEMORY_MOST : (uint32_t)fitted;
 }
 
+/* The page size whose edges are steered to: of the number given at power-on, and at times the
+ * largest, by which a bridge would judge that does not pass a smaller one on. */
+static uint32_t page_size(struct generator *g) {
+    uint32_t page = second_page(g->bench.options.page);
+    return page < SECOND_PAGE_MOST && chance(&g->random, 30) ? SECOND_PAGE_MOST : page;
+}
+
 static uint32_t memory_start(struct generator *g) {
-    static const uint16_t in_page[] = {0, 0, 8, 128, 240, 248, 248, 248, 1, 4, 252, 255};
     static const int16_t from_end[] = {-16, -8, -4, -1, 0, 1, 8, 0x4000};
     uint32_t size = fitted_memory(g);
-    uint32_t page = below(&g->random, (size + PAGE - 1) / PAGE) * PAGE;
+    uint32_t page = page_size(g);
+    const uint32_t in_page[] = {0,        0,        8, page / 2, page - 16, page - 8,
+                                page - 8, page - 8, 1, 4,        page - 4,  page - 1};
+    uint32_t first = below(&g->random, (size + page - 1) / page) * page;
     return chance(&g->random, 20) ? (size + (uint32_t)PICK(&g->random, from_end)) & 0xFFFF
-                                  : page + PICK(&g->random, in_page);
+                                  : first + PICK(&g->random, in_page);
 }
 
 /* Around what is left behind the start, of the place or of the page. */
@@ -186,7 +195,8 @@ static void load_or_read(struct generator *g, uint16_t pair) {
     uint32_t from, size = CONFIGURATION_BYTES;
     if (where == PLACE_MEMORY) {
         from = memory_start(g);
-        size = chance(&g->random, 70) ? (from / PAGE + 1) * PAGE : fitted_memory(g);
+        uint32_t page = page_size(g);
+        size = chance(&g->random, 70) ? (from / page + 1) * page : fitted_memory(g);
     } else {
         from = configuration_start(g);
     }

@@ -17,6 +17,7 @@ typedef thrandue_image bridge_state;
 enum {
     LINE = 64,
     MEMORY = 2048,
+    MEMORY_PAGE = 256,
     REPLY = 4096,
     OPERATIONS = 11
 };
@@ -32,7 +33,7 @@ const size_t measured_state_size = sizeof lent.state;
 const size_t measured_memory_size = sizeof lent.memory;
 
 void measured_power_on(void) {
-    BRIDGE(power_on)(&lent.state, false);
+    BRIDGE(power_on)(&lent.state, false, MEMORY_PAGE);
 }
 
 uint64_t measured_event(const struct record *record) {

@@ -2,6 +2,7 @@
 #include "second_bridge.h"
 
 #include "second_bytes.h"
+#include "second_page.h"
 #include "second_store.h"
 
 #include <string.h>
@@ -9,7 +10,6 @@
 enum {
     SETUP_LENGTH = 8,
     MEMORY_MOST = 2048,
-    PAGE = 256,
     WRITE_ALIGNMENT = 8,
     CONFIGURED = 2,
     SIGNATURE_ADDRESS = 0x04,
@@ -282,13 +282,13 @@ static uint32_t find_place(struct second_bridge *bridge, const struct request *r
     return SECOND_DONE;
 }
 
-static uint32_t write_refusal(const struct request *request) {
+static uint32_t write_refusal(const struct second_bridge *bridge, const struct request *request) {
     if (request->value == PLACE_CONFIGURATION)
         return request->index < FIRST_WRITABLE ? SECOND_OUTSIDE : SECOND_DONE;
     if (request->index % WRITE_ALIGNMENT != 0)
         return SECOND_UNALIGNED;
     /* The last byte's page, not that of start + n: a write may end where a page does. */
-    if (request->index % PAGE + request->length > PAGE)
+    if ((request->index & bridge->page_mask) + request->length > bridge->page_mask + 1)
         return SECOND_PAGE_CROSSED;
     return SECOND_DONE;
 }
@@ -297,7 +297,7 @@ static uint32_t load_config_data(struct second_bridge *bridge, const struct requ
     uint8_t *place;
     uint32_t refusal = find_place(bridge, request, &place);
     if (!refusal)
-        refusal = write_refusal(request);
+        refusal = write_refusal(bridge, request);
     if (refusal)
         return refusal;
     if (request->host_len != request->length)
@@ -604,21 +604,22 @@ uint32_t second_status(struct second_bridge *bridge, uint8_t *reply, size_t repl
     return handed_out(STATUS_LENGTH);
 }
 
-uint32_t second_power_on(struct second_bridge *bridge, bool bus_powered) {
+uint32_t second_power_on(struct second_bridge *bridge, bool bus_powered, uint32_t page) {
     memset(bridge, 0, sizeof *bridge);
     bridge->bus_powered = bus_powered;
+    bridge->page_mask = (uint8_t)(second_page(page) - 1);
     bridge->bytes[SIGNATURE_ADDRESS] = SIGNATURE_AT_POWER_ON;
     return SECOND_DONE;
 }
 
-uint32_t second_power_on_with_store(struct second_bridge *bridge, bool bus_powered,
+uint32_t second_power_on_with_store(struct second_bridge *bridge, bool bus_powered, uint32_t page,
                                     const uint8_t *store, size_t store_len) {
     struct second_settings settings;
-    uint8_t answer = second_read_store(store, store_len, &settings);
-    second_power_on(bridge, bus_powered);
-    if (answer == SECOND_DONE)
+    uint8_t refusal = second_read_store(store, store_len, &settings);
+    second_power_on(bridge, bus_powered, refusal ? page : settings.page);
+    if (!refusal)
         memcpy(bridge->bytes + FIRST_WRITABLE, settings.bytes, sizeof settings.bytes);
-    return answer;
+    return refusal;
 }
 
 uint32_t second_bus_reset(struct second_bridge *bridge) {

@@ -61,14 +61,17 @@ enum {
 
 /* Callers provide the room and leave the fields to the calls below. */
 struct second_bridge {
-    uint32_t tag;      /* busy, status waiting */
-    uint32_t residue;  /* status waiting; while busy L, of which nothing has moved yet */
-    uint8_t direction; /* busy, as reports number it */
-    uint8_t status;    /* status waiting */
+    uint32_t tag;     /* busy, status waiting */
+    uint32_t residue; /* status waiting; while busy L, of which nothing has moved yet */
+    union {
+        uint8_t direction; /* busy, as reports number it */
+        uint8_t status;    /* status waiting */
+    };
     uint8_t phase;
     uint8_t halts;
     uint8_t configuration;
-    uint8_t bus_powered; /* fixed at power-on */
+    uint8_t bus_powered; /* fixed at power-on, and so is the next */
+    uint8_t page_mask;   /* the page size less one: the bits of an address inside its page */
     uint8_t bytes[SECOND_CONFIGURATION_BYTES];
     uint8_t held; /* how much has come in bursts since the last packet */
     uint8_t fragments[SECOND_HELD_MOST];
@@ -78,8 +81,8 @@ struct second_bridge {
  * operations handed out. A control request's has 32 bits more: bit 48 is set where the reply is a
  * part of the lent memory, and bits 32 to 47 are then its start there. A slice of length 0 may be
  * NULL. */
-uint32_t second_power_on(struct second_bridge *bridge, bool bus_powered);
-uint32_t second_power_on_with_store(struct second_bridge *bridge, bool bus_powered,
+uint32_t second_power_on(struct second_bridge *bridge, bool bus_powered, uint32_t page);
+uint32_t second_power_on_with_store(struct second_bridge *bridge, bool bus_powered, uint32_t page,
                                     const uint8_t *store, size_t store_len);
 uint32_t second_bus_reset(struct second_bridge *bridge);
 uint64_t second_control(struct second_bridge *bridge, const uint8_t *setup, size_t setup_len,

@@ -4,6 +4,7 @@
 
 #include "second_bridge.h"
 #include "second_bytes.h"
+#include "second_page.h"
 
 #include <string.h>
 
@@ -13,6 +14,13 @@ enum {
     NEWEST_EDITION = 0x0102,
     NEWEST_LENGTH = SECOND_SETTINGS_BYTES + 1
 };
+
+/* The first edition knew no part but that of the largest pages. */
+static uint32_t page_of(const uint8_t *payload, uint32_t length) {
+    if (length != NEWEST_LENGTH)
+        return SECOND_PAGE_MOST;
+    return second_page(payload[SECOND_SETTINGS_BYTES] * SECOND_PAGE_UNIT);
+}
 
 uint8_t second_read_store(const uint8_t *store, size_t store_len,
                           struct second_settings *settings) {
@@ -37,6 +45,6 @@ uint8_t second_read_store(const uint8_t *store, size_t store_len,
         store_len -= length;
     } while (store_len != 0);
     memcpy(settings->bytes, payload, SECOND_SETTINGS_BYTES);
-    settings->kept = length == NEWEST_LENGTH ? payload[SECOND_SETTINGS_BYTES] : 0;
+    settings->page = page_of(payload, length);
     return SECOND_DONE;
 }

@@ -1,4 +1,4 @@
-/* The second reading of a settings store: request 5 read by hand into plain C. */
+/* The second reading of a settings store: requests 5 and 6 read by hand into plain C. */
 #ifndef SECOND_STORE_H
 #define SECOND_STORE_H
 
@@ -11,7 +11,7 @@ enum {
 
 struct second_settings {
     uint8_t bytes[SECOND_SETTINGS_BYTES]; /* for configuration addresses 2 to F */
-    uint8_t kept;                         /* for the next edition */
+    uint32_t page;                        /* one of the four sizes */
 };
 
 /* The answer, as second_bridge.h numbers it. The settings are written where it is SECOND_DONE, and

@@ -20,16 +20,16 @@ static uint64_t store(thrandue_image *image, const struct second_bridge *bridge,
     return outcome;
 }
 
-uint32_t thrandue_power_on(thrandue_image *image, bool bus_powered) {
+uint32_t thrandue_power_on(thrandue_image *image, bool bus_powered, uint32_t page) {
     struct second_bridge bridge = load(image);
-    return store(image, &bridge, second_power_on(&bridge, bus_powered));
+    return store(image, &bridge, second_power_on(&bridge, bus_powered, page));
 }
 
-uint32_t thrandue_power_on_with_store(thrandue_image *image, bool bus_powered,
+uint32_t thrandue_power_on_with_store(thrandue_image *image, bool bus_powered, uint32_t page,
                                       const uint8_t *records, size_t records_len) {
     struct second_bridge bridge = load(image);
     return store(image, &bridge,
-                 second_power_on_with_store(&bridge, bus_powered, records, records_len));
+                 second_power_on_with_store(&bridge, bus_powered, page, records, records_len));
 }
 
 uint32_t thrandue_bus_reset(thrandue_image *image) {

@@ -1,4 +1,4 @@
-/* stores: writes a settings store from a seed, steered towards the edges of request 5. */
+/* stores: writes a settings store from a seed, steered towards the edges of requests 5 and 6. */
 #include "command.h"
 #include "random.h"
 #include "record.h"
@@ -47,9 +47,19 @@ static uint32_t known_kind(struct store *store) {
     return chance(&store->random, 50) ? FIRST_EDITION : NEWEST_EDITION;
 }
 
+/* The byte of the page size, which the record that was appended last ends in: that of one of the
+ * four, one around them, or any. */
+static void steer_page(struct store *store) {
+    static const uint8_t bytes[] = {1, 2, 4, 8, 1, 2, 4, 8, 0, 3, 7, 9, 16, 255};
+    if (chance(&store->random, 80))
+        store->bytes[store->length - 1] = PICK(&store->random, bytes);
+}
+
 static void good_record(struct store *store) {
     uint32_t kind = known_kind(store);
     append_record(store, length_of(kind), kind);
+    if (kind == NEWEST_EDITION)
+        steer_page(store);
 }
 
 /* A kind that is one step, one byte or a swap away from one that is known. */

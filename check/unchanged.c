@@ -24,30 +24,35 @@ static bool is_marked(const uint8_t *bytes, size_t front, size_t count) {
     return count == front;
 }
 
-/* The store stays, and so do the settings where it is refused. */
+/* The store stays, and so do the bytes and the page size where it is refused; and always what
+ * stands behind the bytes. */
 static bool read_keeps(const struct command_file *store) {
     uint8_t *lent = command_room(store->length);
-    service_settings settings;
+    uint8_t bytes[SERVICE_BYTES + 1];
+    uint32_t page;
     if (store->length != 0)
         memcpy(lent, store->bytes, store->length);
-    memset(&settings, MARK, sizeof settings);
-    uint8_t answer = service_read(lent, store->length, &settings);
+    memset(bytes, MARK, sizeof bytes);
+    memset(&page, MARK, sizeof page);
+    bool done = service_read(lent, store->length, bytes, &page) == THRANDUE_DONE;
     bool kept = store->length == 0 || memcmp(lent, store->bytes, store->length) == 0;
     free(lent);
-    return kept && (answer == THRANDUE_DONE || is_marked((uint8_t *)&settings, 0, sizeof settings));
+    return kept && is_marked(bytes, done ? SERVICE_BYTES : 0, sizeof bytes) &&
+           (done || is_marked((uint8_t *)&page, 0, sizeof page));
 }
 
-/* The settings stay, and so does the room behind the record; all of it where that does not fit. */
+/* The bytes stay, and so does the room behind the record; all of it where that does not fit. */
 static bool write_keeps(size_t length) {
-    static const service_settings written = {.bytes = {1, 2, 3, 4, 5, 6, 7}, .kept = 8};
-    service_settings settings = written;
+    static const uint8_t written[SERVICE_BYTES] = {1, 2, 3, 4, 5, 6, 7};
+    uint8_t bytes[SERVICE_BYTES];
     uint8_t *room = command_room(length);
+    memcpy(bytes, written, sizeof bytes);
     if (length != 0)
         memset(room, MARK, length);
-    uint32_t outcome = service_write(&settings, room, length);
+    uint32_t outcome = service_write(bytes, 128, room, length);
     uint32_t count = thrandue_count(outcome);
     bool fits = length >= SERVICE_RECORD_LENGTH;
-    bool kept = memcmp(&settings, &written, sizeof settings) == 0 &&
+    bool kept = memcmp(bytes, written, sizeof bytes) == 0 &&
                 thrandue_answer(outcome) == (fits ? THRANDUE_DONE : THRANDUE_RECORD_ROOM) &&
                 count == (fits ? SERVICE_RECORD_LENGTH : 0) && is_marked(room, count, length);
     free(room);

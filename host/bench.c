@@ -28,7 +28,7 @@ struct bench_arguments bench_arguments(char **argv, const char *help) {
     return (struct bench_arguments){
         .rest = argv + 1,
         .help = help,
-        .options = {.memory = 2048, .reply = 4096, .operations = 11},
+        .options = {.memory = 2048, .reply = 4096, .operations = 11, .page = 256},
     };
 }
 
@@ -44,6 +44,8 @@ const char *bench_argument(struct bench_arguments *arguments) {
             *size = command_size_after(&arguments->rest, argument);
         else if (fact != NULL)
             *fact = true;
+        else if (strcmp(argument, "--page") == 0)
+            arguments->options.page = command_number_after(&arguments->rest, argument);
         else if (strcmp(argument, "--store") == 0)
             arguments->options.store = command_file_after(&arguments->rest, argument);
         else
@@ -60,15 +62,16 @@ static void *room(size_t bytes) {
 }
 
 static uint32_t power_on(struct bench *bench) {
+    const struct bench_options *options = &bench->options;
     struct command_file *store = &bench->store;
-    if (bench->options.store == NULL) {
+    if (options->store == NULL) {
         *store = (struct command_file){0};
-        return thrandue_power_on(bench->image, bench->options.bus_powered);
+        return thrandue_power_on(bench->image, options->bus_powered, options->page);
     }
-    if (!command_read(bench->options.store, store))
+    if (!command_read(options->store, store))
         exit(EXIT_MISUSED);
-    return thrandue_power_on_with_store(bench->image, bench->options.bus_powered, store->bytes,
-                                        store->length);
+    return thrandue_power_on_with_store(bench->image, options->bus_powered, options->page,
+                                        store->bytes, store->length);
 }
 
 uint8_t bench_open(struct bench *bench, struct bench_options options) {

@@ -10,13 +10,14 @@
 #include <stddef.h>
 #include <stdint.h>
 
-/* The sizes of what is lent, what is fixed at power-on, the file of the settings at power-on, NULL
+/* The sizes of what is lent, what is given at power-on, the file of the settings at power-on, NULL
  * for none, and whether a session has packets in bursts. */
 struct bench_options {
     size_t memory;
     size_t reply;
     size_t operations;
     bool bus_powered;
+    uint32_t page;
     const char *store;
     bool bursts;
 };
@@ -43,7 +44,10 @@ struct bench_arguments {
     "  --reply N       bytes of reply room (4096)\n"                                               \
     "  --operations N  room for operations (11)\n"                                                 \
     "  --bus-powered   the dock is bus powered\n"                                                  \
-    "  --store FILE    the dock is powered on with the settings of this store\n"                   \
+    "  --page N        bytes in a page of the memory part, 32, 64, 128 or 256 (256); another\n"    \
+    "                  number is taken as 32\n"                                                    \
+    "  --store FILE    the dock is powered on with the settings of this store, whose page size\n"  \
+    "                  replaces N\n"                                                               \
     "  --bursts        records of kind 6 are bursts of a packet, of kind 7 end marks\n"            \
     "  --help          this text\n"
 

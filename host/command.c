@@ -2,6 +2,7 @@
 #include "command.h"
 
 #include <errno.h>
+#include <inttypes.h>
 #include <stdarg.h>
 #include <stdlib.h>
 #include <string.h>
@@ -79,11 +80,20 @@ bool command_is_option(const char *argument) {
     return argument[0] == '-' && argument[1] != '\0';
 }
 
-size_t command_size_after(char ***arguments, const char *option) {
+static uint64_t number_after(char ***arguments, const char *option, uint64_t most) {
     uint64_t number;
-    if (**arguments == NULL || !command_number(*(*arguments)++, SIZE_MOST, &number))
-        exit(command_misused("%s takes a number from 0 to %d", option, SIZE_MOST));
-    return (size_t)number;
+    if (**arguments == NULL || !command_number(*(*arguments)++, most, &number))
+        exit(command_misused("%s takes a number from 0 to %" PRIu64, option, most));
+    return number;
+}
+
+size_t command_size_after(char ***arguments, const char *option) {
+    return (size_t)number_after(arguments, option, SIZE_MOST);
+}
+
+uint32_t command_number_after(char ***arguments, const char *option) {
+    uint64_t number = number_after(arguments, option, UINT64_MAX);
+    return number < UINT32_MAX ? (uint32_t)number : UINT32_MAX;
 }
 
 const char *command_file_after(char ***arguments, const char *option) {

@@ -30,9 +30,11 @@ bool command_number(const char *text, uint64_t most, uint64_t *number);
 /* Whether it starts with - and is not the - for standard input. */
 bool command_is_option(const char *argument);
 
-/* What an option takes, from the arguments behind it, which then go on behind that: a size, or the
- * name of a file, which does not start with -. Both end the program where it is not there. */
+/* What an option takes, from the arguments behind it, which then go on behind that: a size; any
+ * number of 64 bits, one that 32 bits cannot hold as the largest that they can; or the name of a
+ * file, which does not start with -. Each ends the program where it is not there. */
 size_t command_size_after(char ***arguments, const char *option);
+uint32_t command_number_after(char ***arguments, const char *option);
 const char *command_file_after(char ***arguments, const char *option);
 
 /* "-" is standard input. NULL, and a message, where the file cannot be opened. */

@@ -44,6 +44,10 @@ static const struct arrival arrivals[] = {
     {BULK_IN, 0, {0}},
 };
 
+enum {
+    MEMORY_PAGE = 256 /* of the part that is fitted, by its data sheet */
+};
+
 struct dock {
     thrandue_image image;
     uint8_t memory[2048];
@@ -117,7 +121,7 @@ static void fit(struct dock *dock) {
 int main(void) {
     static struct dock dock;
     fit(&dock);
-    thrandue_power_on(&dock.image, false);
+    thrandue_power_on(&dock.image, false, MEMORY_PAGE);
     for (size_t i = 0; i < sizeof arrivals / sizeof arrivals[0]; i++)
         show(&dock, arrivals[i].source, take(&dock, &arrivals[i]));
     return 0;

@@ -8,18 +8,18 @@
 #include <string.h>
 
 static const char help[] =
-    "read FILE | write BYTES [KEPT] [-o FILE] [--room N]\n"
+    "read FILE | write BYTES [--page N] [-o FILE] [--room N]\n"
     "Reads and writes settings stores: a store is a file that keeps the settings of a dock, with\n"
     "which the dock can be powered on again. The first line printed is the answer's number, 0\n"
     "where all is well.\n"
     "  read FILE       prints the settings of a store: in hex the fourteen bytes for\n"
-    "                  configuration addresses 2 to F, and on the next line the byte that is kept\n"
-    "                  for the next edition. FILE may be -, for standard input\n"
-    "  write BYTES [KEPT]\n"
-    "                  prints the store of these settings in hex. BYTES are the fourteen bytes in\n"
+    "                  configuration addresses 2 to F, and on the next line 'page' and the bytes\n"
+    "                  in a page of the dock's memory part. FILE may be -, for standard input\n"
+    "  write BYTES     prints the store of these settings in hex. BYTES are the fourteen bytes in\n"
     "                  hex, in one argument, with blanks between them or without: as read prints\n"
-    "                  them, or as the dock replies where configuration addresses 2 to F are\n"
-    "                  read. KEPT is the kept byte in two hex digits, 00 where it is left out\n"
+    "                  them, or as the dock replies where configuration addresses 2 to F are read\n"
+    "  --page N        write: bytes in a page of the memory part, 32, 64, 128 or 256 (256);\n"
+    "                  another number is taken as 32\n"
     "  -o FILE         write: the store is written to this file too\n"
     "  --room N        write: lends N bytes of room at the most; the store takes 19\n"
     "  --help          this text\n"
@@ -33,13 +33,13 @@ static const char help[] =
     "written.\n";
 
 enum {
-    WORDS_MOST = 2
+    PAGE_UNLESS_GIVEN = 256
 };
 
 /* What stands behind a command. */
 struct arguments {
-    const char *words[WORDS_MOST];
-    unsigned given;
+    const char *word;
+    uint32_t page;
     const char *output; /* NULL for none */
     size_t room;
 };
@@ -47,9 +47,7 @@ struct arguments {
 struct command {
     const char *name;
     const char *takes;
-    unsigned least;
-    unsigned most;
-    bool writes; /* so -o and --room are its options */
+    bool writes; /* so --page, -o and --room are its options */
     int (*run)(const struct arguments *arguments);
 };
 
@@ -75,21 +73,18 @@ static bool read_bytes(const char *text, uint8_t *bytes, size_t count) {
     return text[strspn(text, " \t")] == '\0';
 }
 
-static bool read_kept(const char *text, uint8_t *kept) {
-    return read_bytes(strncmp(text, "0x", 2) == 0 ? text + 2 : text, kept, 1);
-}
-
 static int read_store(const struct arguments *arguments) {
     struct command_file store;
-    service_settings settings;
-    if (!command_read(arguments->words[0], &store))
+    uint8_t bytes[SERVICE_BYTES];
+    uint32_t page;
+    if (!command_read(arguments->word, &store))
         return EXIT_MISUSED;
-    uint8_t answer = service_read(store.bytes, store.length, &settings);
+    uint8_t answer = service_read(store.bytes, store.length, bytes, &page);
     free(store.bytes);
     printf("%u\n", (unsigned)answer);
     if (answer == THRANDUE_DONE) {
-        print_bytes(settings.bytes, sizeof settings.bytes);
-        print_bytes(&settings.kept, 1);
+        print_bytes(bytes, sizeof bytes);
+        printf("page %lu\n", (unsigned long)page);
     }
     return status_of(answer);
 }
@@ -106,24 +101,21 @@ static int hand_out(uint32_t outcome, const uint8_t *room, const char *output) {
 }
 
 static int write_store(const struct arguments *arguments) {
-    service_settings settings = {.kept = 0};
-    const char *bytes = arguments->words[0];
-    const char *kept = arguments->words[1];
-    if (!read_bytes(bytes, settings.bytes, sizeof settings.bytes))
-        return command_misused("'%s' is not fourteen bytes in hex", bytes);
-    if (kept != NULL && !read_kept(kept, &settings.kept))
-        return command_misused("'%s' is not a byte in two hex digits", kept);
+    uint8_t bytes[SERVICE_BYTES];
+    if (!read_bytes(arguments->word, bytes, sizeof bytes))
+        return command_misused("'%s' is not fourteen bytes in hex", arguments->word);
     size_t length =
         arguments->room < SERVICE_RECORD_LENGTH ? arguments->room : SERVICE_RECORD_LENGTH;
     uint8_t *room = command_room(length);
-    int status = hand_out(service_write(&settings, room, length), room, arguments->output);
+    uint32_t outcome = service_write(bytes, arguments->page, room, length);
+    int status = hand_out(outcome, room, arguments->output);
     free(room);
     return status;
 }
 
 static const struct command commands[] = {
-    {"read", "one FILE", 1, 1, false, read_store},
-    {"write", "BYTES, and then KEPT or nothing", 1, 2, true, write_store},
+    {"read", "one FILE", false, read_store},
+    {"write", "BYTES, in one argument", true, write_store},
 };
 
 static const struct command *named_command(const char *name) {
@@ -135,7 +127,7 @@ static const struct command *named_command(const char *name) {
 
 /* Ends the program where they are not what the command takes, and after --help. */
 static struct arguments arguments_of(const struct command *command, char **rest) {
-    struct arguments arguments = {.room = SERVICE_RECORD_LENGTH};
+    struct arguments arguments = {.page = PAGE_UNLESS_GIVEN, .room = SERVICE_RECORD_LENGTH};
     const char *argument;
     while ((argument = *rest) != NULL) {
         rest++;
@@ -145,15 +137,17 @@ static struct arguments arguments_of(const struct command *command, char **rest)
             arguments.output = command_file_after(&rest, argument);
         else if (command->writes && strcmp(argument, "--room") == 0)
             arguments.room = command_size_after(&rest, argument);
+        else if (command->writes && strcmp(argument, "--page") == 0)
+            arguments.page = command_number_after(&rest, argument);
         else if (command_is_option(argument))
             exit(command_misused("%s has no option %s", command->name, argument));
-        else if (arguments.given == command->most)
+        else if (arguments.word != NULL)
             exit(command_misused("'%s' is too many: %s takes %s", argument, command->name,
                                  command->takes));
         else
-            arguments.words[arguments.given++] = argument;
+            arguments.word = argument;
     }
-    if (arguments.given < command->least)
+    if (arguments.word == NULL)
         exit(command_misused("%s takes %s", command->name, command->takes));
     return arguments;
 }

@@ -13,32 +13,34 @@
 extern "C" {
 #endif
 
-/* What is kept of a dock: its fourteen bytes, for configuration addresses 2 to F, and one byte for
- * the next edition, which no dock of this one looks at. Each may be any byte. */
-typedef struct service_settings {
-    uint8_t bytes[14];
-    uint8_t kept;
-} service_settings;
+/* Settings, as they are kept of a dock: its fourteen bytes, for configuration addresses 2 to F,
+ * each of which may be any byte, and the page size of its memory part, 32, 64, 128 or 256. */
+enum {
+    SERVICE_BYTES = 14
+};
 
 /* The caller answers for this: pointers are valid for their type or their length, and do not
  * overlap. A slice of length 0 may be NULL. Any length and content of every slice gets an answer.
  */
 
-/* The settings of a store, which thrandue_power_on_with_store describes; kind 0x0101 reads as 0 in
- * the kept byte. Returns the answer: DONE, or CUT_RECORD to NO_RECORD. Settings are written where
- * it is DONE and left as they were where it is not. */
-uint8_t service_read(const uint8_t *store, size_t store_len, service_settings *settings);
+/* The settings of a store, which thrandue_power_on_with_store describes; kind 0x0101 reads as pages
+ * of 256. Returns the answer: DONE, or CUT_RECORD to NO_RECORD. Bytes and page size are written
+ * where it is DONE and left as they were where it is not. */
+uint8_t service_read(const uint8_t *store, size_t store_len, uint8_t bytes[SERVICE_BYTES],
+                     uint32_t *page);
 
 /* How long a written record is. */
 enum {
     SERVICE_RECORD_LENGTH = 19
 };
 
-/* A store of these settings: one record of the newest kind, 0x0102, into the room. Returns an
- * outcome: the answer in the low byte, and above it how many bytes stand at the front of the room;
- * the rest of the room is unchanged. RECORD_ROOM, for a room shorter than the record, writes
- * nothing. What was written reads as the same settings. */
-uint32_t service_write(const service_settings *settings, uint8_t *room, size_t room_len);
+/* A store of these settings: one record of the newest kind, 0x0102, into the room; a page size that
+ * is none of the four is taken as 32, as at power-on. Returns an outcome: the answer in the low
+ * byte, and above it how many bytes stand at the front of the room; the rest of the room is
+ * unchanged. RECORD_ROOM, for a room shorter than the record, writes nothing. What was written
+ * reads as the same settings. */
+uint32_t service_write(const uint8_t bytes[SERVICE_BYTES], uint32_t page, uint8_t *room,
+                       size_t room_len);
 
 #ifdef __cplusplus
 }

@@ -101,14 +101,18 @@ enum {
 };
 
 /* The image becomes that of a bridge at power-on, whatever it held, in a dock that is bus powered
- * or not. Answers DONE. */
-uint32_t thrandue_power_on(thrandue_image *image, bool bus_powered);
+ * or not and whose memory part has pages of 32, 64, 128 or 256 bytes; another number is taken as
+ * 32, the safe one. A memory write that crosses a page of that size is answered CROSSES_PAGE.
+ * Answers DONE. */
+uint32_t thrandue_power_on(thrandue_image *image, bool bus_powered, uint32_t page);
 
 /* As thrandue_power_on, with the settings of a store, and this is the only way by which settings
  * reach the bridge. A store is a run of records, each its payload's length (2 bytes, low first),
- * its kind (2, low first) and its payload, and the last one is the settings: where the answer is
- * DONE, their fourteen bytes stand at configuration addresses 2 to F. Any other answer refuses the
- * store, and the image is that of thrandue_power_on: a store that is refused leaves the defaults.
+ * its kind (2, low first) and its payload, and the last one is the settings: fourteen bytes, and in
+ * kind 0x0102 one more, the page size divided by 32, where any other byte reads as 32; kind 0x0101
+ * reads as 256. Where the answer is DONE, the fourteen stand at configuration addresses 2 to F, and
+ * the page size replaces the number given here. Any other answer refuses the store, and the image
+ * is that of thrandue_power_on: a store that is refused leaves the defaults, and the number given.
  * It is judged record by record from the front, in this order within a record, and the first
  * refusal found is answered, whatever follows:
  *
@@ -116,8 +120,8 @@ uint32_t thrandue_power_on(thrandue_image *image, bool bus_powered);
  *   UNKNOWN_KIND      neither 0x0101 nor 0x0102
  *   PAYLOAD_LENGTH    not the 14 bytes of 0x0101, or the 15 of 0x0102
  *   NO_RECORD         the store is empty */
-uint32_t thrandue_power_on_with_store(thrandue_image *image, bool bus_powered, const uint8_t *store,
-                                      size_t store_len);
+uint32_t thrandue_power_on_with_store(thrandue_image *image, bool bus_powered, uint32_t page,
+                                      const uint8_t *store, size_t store_len);
 
 /* Configuration 0, awaiting a command, no halts; the configuration bytes and the memory stay.
  * Answers DONE. */
