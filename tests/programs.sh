@@ -1,8 +1,10 @@
-# Sourced by the tests of C programs: how these are compiled, under the sanitizers too, how they end and what they print.
+# Sourced by the tests of C programs: how these are compiled, under the sanitizers too, how they end and what they print, and what they are given.
 # shellcheck shell=sh disable=SC2034
 CC=${CC:-cc}
 strict='-std=c11 -Wall -Wextra -Wpedantic -Werror -Ihost'
 sanitized='-O1 -g -fsanitize=address,undefined -fno-sanitize-recover=all'
+# Other numbers than the four page sizes: around and between them, and those that a part of the number would be taken for.
+other_pages='0 1 31 33 63 65 96 127 129 160 192 255 257 512 8256 65568 65792 0x10040 4294967295 4294967328 4294967552 18446744073709551615'
 
 # ends STATUS MESSAGE COMMAND..: ends so, and says so on standard error.
 ends() {
