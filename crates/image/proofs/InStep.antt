@@ -12,7 +12,7 @@ use Rattle.rules.specs.declared.Direction.the-variants.{Out, In}
 use Rattle.rules.specs.declared.Dock.{Dock}
 use Rattle.rules.specs.declared.PageSize.{PageSize}
 use Rattle.rules.specs.declared.PageSize.the-variants.{Of32, Of64, Of128, Of256}
-use Rattle.rules.specs.Words.{one, over}
+use Rattle.rules.specs.Words.{over}
 use Rattle.rules.specs.Held.{Start, world, holding, docked, powerOn, powerOnBytes, startBytes}
 use Rattle.rules.specs.Changes.{made, drops}
 use Rattle.rules.specs.Bursts.{kept}

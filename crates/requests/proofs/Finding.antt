@@ -1,7 +1,7 @@
 -- Laws by which a request for a descriptor is judged: no memory, what the search says, data from the host, and what is told.
 use mathlib.Core.Path.{_≡_, refl, sym, ap, _∙_}
 use mathlib.Core.Bool.{Bool, true, false, cond, not}
-use mathlib.Core.List.{List, [], _∷_, _++_}
+use mathlib.Core.List.{List, [], _∷_}
 use Prim.Native.Nat.{ℕ, min}
 use native.Mathlib.Omega.{arith}
 use lib.Dec.{eqb}
@@ -13,7 +13,6 @@ use Rattle.rules.specs.declared.addresses.Address.{Address}
 use Rattle.rules.specs.Words.{Check, _if_, first}
 use Rattle.rules.specs.Held.{sizeOf, fitted}
 use Rattle.rules.specs.Descriptors.{numberOf, placeIn, lengthIn, descriptorChecks}
-use Rattle.rules.specs.Step.{done}
 use Rattle.rules.proofs.Checks.{first-append}
 use Rattle.descriptors.specs.declared.Found.{Found}
 use Rattle.descriptors.specs.declared.Found.the-variants.{No, At}

@@ -10,14 +10,14 @@ use Rattle.rules.specs.Step.{done}
 use Rattle.settings.specs.declared.Settings.{Settings}
 use Rattle.settings.specs.declared.Reading.{Reading}
 use Rattle.settings.specs.Store.{recordLength, wrote, writtenIn}
-use Rattle.service.specs.Calls.{shown, showing, result, lays}
+use Rattle.service.specs.Calls.{readout, showing, result, lays}
 
 -- what is read, shown or not
 module _ (r : Reading) (bytes : List ℕ) (page : ℕ) where
-  pub is-shown : {n : ℕ} → r .answer ≡ 0 → n ≡ pageBytes (r .settings .page) → shown (r .answer) (r .settings .bytes) n ≡ showing r bytes page
+  pub is-shown : {n : ℕ} → r .answer ≡ 0 → n ≡ pageBytes (r .settings .page) → readout (r .answer) (r .settings .bytes) n ≡ showing r bytes page
   is-shown z e = rw (e, z) refl
 
-  pub not-shown : (r .answer ≡ 0 → ⊥) → shown (r .answer) bytes page ≡ showing r bytes page
+  pub not-shown : (r .answer ≡ 0 → ⊥) → readout (r .answer) bytes page ≡ showing r bytes page
   not-shown bad = rw (ne-eqb (r .answer) 0 bad) refl
 
 -- what is written, or not

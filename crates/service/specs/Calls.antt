@@ -9,18 +9,18 @@ use Rattle.settings.specs.declared.Reading.{Reading}
 use Rattle.settings.specs.Store.{recordLength, Written, writtenIn}
 
 -- of a read: the number that it returns, and settings for C, the fourteen bytes and the page size as a number
-pub record Shown : Type 0 where
+pub record Readout : Type 0 where
   pub returned : ℕ
   pub bytes : List ℕ
   pub page : ℕ
 
-abbrev pub shown : ℕ → List ℕ → ℕ → Shown
-shown returned bytes page = record { returned = returned; bytes = bytes; page = page }
+abbrev pub readout : ℕ → List ℕ → ℕ → Readout
+readout returned bytes page = record { returned = returned; bytes = bytes; page = page }
 
 -- what is read is shown where the answer is 0, and nothing of a refused store
-abbrev pub showing : Reading → List ℕ → ℕ → Shown
+abbrev pub showing : Reading → List ℕ → ℕ → Readout
 showing r bytes page =
-    shown (r .answer) (cond (done (r .answer)) (r .settings .bytes) bytes) (cond (done (r .answer)) (pageBytes (r .settings .page)) page)
+    readout (r .answer) (cond (done (r .answer)) (r .settings .bytes) bytes) (cond (done (r .answer)) (pageBytes (r .settings .page)) page)
 
 -- of a write: the number that it returns, and the lent room
 pub record Result : Type 0 where

@@ -2,7 +2,7 @@
 ghost use mathlib.Core.Path.{_≡_};
 ghost use Rattle.rules.specs.Held.{pageOf};
 ghost use Rattle.settings.specs.Store.{settingsFrom, readBy, newest};
-ghost use Rattle.service.specs.Calls.{shown, showing, result, lays};
+ghost use Rattle.service.specs.Calls.{readout, showing, result, lays};
 use rules::PageSize;
 use rules::answers;
 use settings::RECORD;
@@ -19,7 +19,7 @@ fn settings_of(bytes: &[u8; 14], page: u32) -> Settings
 
 #[no_mangle]
 pub extern "C" fn service_read(store: &[u8], bytes: &mut [u8; 14], page: &mut u32) -> u8
-    ensures { λ r. ⌜ shown r (now (bytes .exit)) (now (page .exit)) ≡ showing (readBy newest (now (store .entry))) (now (bytes .entry)) (now (page .entry)) ⌝ }
+    ensures { λ r. ⌜ readout r (now (bytes .exit)) (now (page .exit)) ≡ showing (readBy newest (now (store .entry))) (now (bytes .entry)) (now (page .entry)) ⌝ }
 {
     let reading = settings::read(store);
     if reading.answer == answers::DONE {

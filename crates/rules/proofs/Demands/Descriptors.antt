@@ -1,14 +1,13 @@
 -- A search for a descriptor comes to what stands in the memory, and what is there is told.
 use mathlib.Core.Path.{_≡_, refl, sym, ap, subst, _∙_}
 use mathlib.Core.Bool.{Bool, true, false, cond, not, _&&_, _||_, true≢false, false≢true, and-false}
-use mathlib.Core.List.{List, [], _++_}
+use mathlib.Core.List.{List, []}
 use Prim.Native.Nat.{ℕ, _+_, _*_, _/_, _%_, _<_, _≤_, min}
 use native.Mathlib.Omega.{arith}
 use lib.ListN.{length, take, drop, length-drop}
 use lib.Seq.{length-take-le}
 use lib.Dec.{eqb, ltb}
 use borrow.Author.Tests.{eqb-true, eqb-false, ne-eqb, ltb-true, ltb-false, le-ltb, not-true, not-false}
-use Rattle.rules.specs.declared.Dock.{Dock}
 use Rattle.rules.specs.declared.Setup.{Setup}
 use Rattle.rules.specs.declared.Stands.the-variants.{InRoom, InMemory}
 use Rattle.rules.specs.declared.addresses.StringIndex.{StringIndex}
@@ -21,7 +20,7 @@ use Rattle.rules.specs.Requests.{Named, Unknown, Known, Describes, setup
 use Rattle.rules.specs.Answers.{seenOf, dataChecks, requestAnswer}
 use Rattle.rules.specs.Step.{BusReset, Control, Packet, Report, StatusRequest, Burst, EndMark, Outcome, done, given, step, rules}
 use Rattle.rules.specs.Demands.Requests.{wire}
-use Rattle.rules.specs.Demands.Descriptors.{wanting, part, Place, device, qualifier, busPowered, selfPowered, string, stringZero, head, says, Headed, Search, noMemory, noPlace, headCut, noHead, cut, there, DescriptorIsSought, DescriptorIsTold, FirstStringIsNamed, NothingElseEnters, wants, OnlyDescriptorsStand, WhatStandsIsThere}
+use Rattle.rules.specs.Demands.Descriptors.{wanting, part, Place, device, qualifier, busPowered, selfPowered, string, stringZero, head, says, Search, noMemory, noPlace, headCut, noHead, cut, there, DescriptorIsSought, DescriptorIsTold, FirstStringIsNamed, NothingElseEnters, OnlyDescriptorsStand, WhatStandsIsThere}
 use Rattle.rules.proofs.Checks.{first-append, passed, request-has, request-passed}
 use Rattle.rules.proofs.Demands.Coherence.{asking-changes-nothing}
 use Rattle.rules.proofs.Demands.Requests.{whole}

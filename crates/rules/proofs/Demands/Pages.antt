@@ -3,7 +3,7 @@ use mathlib.Core.Path.{_≡_, refl, sym, ap, subst, _∙_}
 use mathlib.Core.Logic.{_⊎_, inl, inr}
 use mathlib.Core.Bool.{Bool, true, false, cond, not, _&&_, _||_, false≢true, and-eq-true-iff}
 use mathlib.Core.List.{List, [], _∷_, _++_}
-use Prim.Native.Nat.{ℕ, _+_, _-_, _*_, _/_, _%_, _<_, _≤_}
+use Prim.Native.Nat.{ℕ, _+_, _-_, _*_, _/_, _<_, _≤_}
 use native.Mathlib.Nat.{div-div-eq-div-mul}
 use native.Mathlib.Omega.{arith}
 use lib.Dec.{eqb, leb, ltb}
@@ -28,7 +28,7 @@ use Rattle.rules.proofs.Pages.{divides-256, in-32s, same-page, some-byt
 
 pub numbers-are-taken : NumbersAreTaken pageOf
 unfolding pageOf
-numbers-are-taken = (itself, λ n a b c. rw (ne-eqb n 64 a, ne-eqb n 128 b, ne-eqb n 256 c))
+numbers-are-taken = (itself, λ n a b c. rw (ne-eqb n 64 a, ne-eqb n 128 b, ne-eqb n 256 c), refl)
   where
     itself : (page : PageSize) → pageOf (pageBytes page) ≡ page
     itself Of32 = refl

@@ -15,6 +15,7 @@ abbrev pub NumbersAreTaken : (ℕ → PageSize) → Type 0
 NumbersAreTaken of =
     ((page : PageSize) → of (pageBytes page) ≡ page)
     × ((n : ℕ) → (n ≡ 64 → ⊥) → (n ≡ 128 → ⊥) → (n ≡ 256 → ⊥) → of n ≡ Of32)
+    × (pageBytes Of32 ≡ 32)
 
 -- "Show the rule once for all sizes": bytes in one page lie in one page of any multiple of its size. So for every page size that divides 256 a write that
 -- is legal under it is legal under 256.
