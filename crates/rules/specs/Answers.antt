@@ -15,7 +15,7 @@ use Rattle.rules.specs.Requests.{Named, setupOf, requestOf, isA, isUnkno
 use Rattle.rules.specs.Packets.{statusLayout, commandOf, valid, meaningful}
 use Rattle.rules.specs.Reports.{malformed}
 
--- those of a memory write: "Answer 10 .. use[s] the size in force"
+-- those of a memory write. "Answer 10 and its example table use the size in force."
 abbrev pub programChecks : ℕ → Bool → ℕ → ℕ → List Check
 programChecks page programs start n =
     9 if (programs && not (atEight start)) ∷

@@ -190,11 +190,11 @@ WrittenIsRead m =
     → (let write : Outcome (m .State) = m .takes s (Control (wire 0x40 0x01 place start (length host)) host room) in
     write .answer ≡ 0 → Replies (m .takes (write .next) (asking 0xC0 0x02 place start (length host))) host)
 
--- A write of one byte or more is accepted from address 2 on among the sixteen, and within a page of the memory, of the size in force, from a multiple of
--- eight on.
+-- the page size in force
 abbrev pub pageIn : World → ℕ
 pageIn w = pageBytes (w .bridge .dock .page)
 
+-- A write of one byte or more is accepted from address 2 on among the sixteen, and within a page of the memory from a multiple of eight on.
 abbrev pub rowOf : ℕ → ℕ → ℕ → ℕ
 rowOf size page row = size * page + 8 * row
 
