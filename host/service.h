@@ -19,9 +19,9 @@ enum {
     SERVICE_BYTES = 14
 };
 
-/* The caller answers for this: pointers are valid for their type or their length, and do not
- * overlap. A slice of length 0 may be NULL. Any length and content of every slice gets an answer.
- */
+/* The caller answers for this: pointers are valid for their type or their length, those to the
+ * bytes of settings for SERVICE_BYTES, and do not overlap. A slice of length 0 may be NULL. Any
+ * length and content of every slice, and any number, gets an answer. */
 
 /* The settings of a store, which thrandue_power_on_with_store describes; kind 0x0101 reads as pages
  * of 256. Returns the answer: DONE, or CUT_RECORD to NO_RECORD. Bytes and page size are written

@@ -11,7 +11,7 @@ use Rattle.rules.specs.declared.Request.the-variants.{LoadConfigData}
 use Rattle.rules.specs.declared.Seen.{Seen}
 use Rattle.rules.specs.declared.Setup.{Setup}
 use Rattle.rules.specs.declared.Stands.the-variants.{InRoom}
-use Rattle.rules.specs.Words.{Check, first}
+use Rattle.rules.specs.Words.{Check, _if_, first}
 use Rattle.rules.specs.Held.{World, sizeOf}
 use Rattle.rules.specs.Requests.{Named, Unknown, Known, isUnknown, Row, table, fits, lookup, setupOf, requestOf, isA, inBytes, inMemory, address, sent}
 use Rattle.rules.specs.Answers.{requestChecks, requestAnswer}
@@ -87,6 +87,22 @@ first-append (c ∷ cs) ds n = go (c .applies) (eqb (c .number) 0) refl n (first
     go t true e n ih = absurd (false≢true n)
     go true false e n ih = rw e
     go false false e n ih = ih n
+
+-- Of two lists that differ in the test of one check, which applies in the second where it applies in the first: both give one number, or the second
+-- gives the number of that check.
+pub stricter : (front behind : List Check) (number : ℕ) (t u : Bool) → (t ≡ true → u ≡ true)
+    → (first (front ++ number if t ∷ behind) ≡ first (front ++ number if u ∷ behind)) ⊎ (first (front ++ number if u ∷ behind) ≡ number)
+stricter [] behind number t true h = inr refl
+stricter [] behind number false false h = inl refl
+stricter [] behind number true false h = absurd (false≢true (h refl))
+stricter (c ∷ front) behind number t u h = go (c .applies) (stricter front behind number t u h)
+  where
+    go : (a : Bool)
+        → (first (front ++ number if t ∷ behind) ≡ first (front ++ number if u ∷ behind)) ⊎ (first (front ++ number if u ∷ behind) ≡ number)
+        → (cond a (c .number) (first (front ++ number if t ∷ behind)) ≡ cond a (c .number) (first (front ++ number if u ∷ behind)))
+        ⊎ (cond a (c .number) (first (front ++ number if u ∷ behind)) ≡ number)
+    go true e = inl refl
+    go false e = e
 
 -- no control request is answered 13 or 14
 pub request-undamaged : (seen : Seen) (memory setup : List ℕ) (host room : ℕ) → damaged (requestAnswer seen memory setup host room) ≡ false

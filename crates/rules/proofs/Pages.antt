@@ -44,6 +44,13 @@ within-page page start n some = go (eqb n 0) refl (leb (start % page + n) page) 
         let further = next-page page start (n - 1) some (omega arith) in
         ne-eqb _ _ (λ q. let s : start / page ≡ (start + (n - 1)) / page = q ∙ ap (λ (x : ℕ). x / page) last in omega arith)
 
+-- a byte of a write that lies in one page lies in the page of its start
+pub one-page : (page start n j : ℕ) → 0 < page → onePage page start n ≡ true → start ≤ j → j < start + n → j / page ≡ start / page
+one-page page start n j some h from to =
+    let l = leb-true _ page (sym (within-page page start n some) ∙ h) in
+    let at : j ≡ start + (j - start) = omega arith in
+    ap (λ (x : ℕ). x / page) at ∙ same-page page start (j - start) some (omega arith)
+
 -- ---- the four sizes
 
 pub some-bytes : (page : PageSize) → 0 < pageBytes page

@@ -2,8 +2,8 @@
 use mathlib.Core.Path.{_≡_, refl, sym, ap, subst, _∙_}
 use mathlib.Core.Logic.{_⊎_, inl, inr}
 use mathlib.Core.Bool.{Bool, true, false, cond, not, _&&_, _||_, false≢true, and-eq-true-iff}
-use mathlib.Core.List.{List, [], _∷_, _++_}
-use Prim.Native.Nat.{ℕ, _+_, _-_, _*_, _/_, _<_, _≤_}
+use mathlib.Core.List.{List}
+use Prim.Native.Nat.{ℕ, _+_, _-_, _*_, _/_}
 use native.Mathlib.Nat.{div-div-eq-div-mul}
 use native.Mathlib.Omega.{arith}
 use lib.Dec.{eqb, leb, ltb}
@@ -13,7 +13,7 @@ use Rattle.rules.specs.declared.PageSize.{PageSize}
 use Rattle.rules.specs.declared.PageSize.the-variants.{Of32, Of64, Of128, Of256}
 use Rattle.rules.specs.declared.Request.the-variants.{LoadConfigData}
 use Rattle.rules.specs.declared.Setup.{Setup}
-use Rattle.rules.specs.Words.{byte, word, over, Check, _if_, first}
+use Rattle.rules.specs.Words.{byte, word, over, Check}
 use Rattle.rules.specs.Held.{World, pageBytes, pageOf}
 use Rattle.rules.specs.Requests.{Known, setupOf, requestOf, isA, inMemory, onePage}
 use Rattle.rules.specs.Answers.{seenOf, requestChecks, requestAnswer, packetAnswer, reportAnswer, statusAnswer}
@@ -21,10 +21,10 @@ use Rattle.rules.specs.Step.{Event, BusReset, Control, Packet, Report, S
 use Rattle.rules.specs.Demands.Coherence.{pageIn}
 use Rattle.rules.specs.Demands.Requests.{isWrite}
 use Rattle.rules.specs.Demands.Pages.{NumbersAreTaken, MultiplesTakeMore, paged, SmallerPagesRefuseMore, LegalUnder256, RefusedBy32, OnePageIsTouched}
-use Rattle.rules.proofs.Checks.{request-passed, accepted-write}
+use Rattle.rules.proofs.Checks.{stricter, request-passed, accepted-write}
 use Rattle.rules.proofs.Rows.{over-outside}
 use Rattle.rules.proofs.Demands.Requests.{is-load, no-other-writes}
-use Rattle.rules.proofs.Pages.{divides-256, in-32s, same-page, some-bytes, within-page}
+use Rattle.rules.proofs.Pages.{divides-256, in-32s, one-page, some-bytes}
 
 pub numbers-are-taken : NumbersAreTaken pageOf
 unfolding pageOf
@@ -47,22 +47,6 @@ multiples-take-more page times start n h = go (eqb n 0) h
         (sym (div-div-eq-div-mul start page times) ∙ ap (λ (x : ℕ). x / times) (eqb-true _ _ h) ∙ div-div-eq-div-mul (start + n - 1) page times)
 
 -- ---- two docks that differ in the page size alone
-
--- Of two lists that differ in the test of one check, which applies in the second where it applies in the first: both give one number, or the second
--- gives the number of that check.
-stricter : (front behind : List Check) (number : ℕ) (t u : Bool) → (t ≡ true → u ≡ true)
-    → (first (front ++ number if t ∷ behind) ≡ first (front ++ number if u ∷ behind)) ⊎ (first (front ++ number if u ∷ behind) ≡ number)
-stricter [] behind number t true h = inr refl
-stricter [] behind number false false h = inl refl
-stricter [] behind number true false h = absurd (false≢true (h refl))
-stricter (c ∷ front) behind number t u h = go (c .applies) (stricter front behind number t u h)
-  where
-    go : (a : Bool)
-        → (first (front ++ number if t ∷ behind) ≡ first (front ++ number if u ∷ behind)) ⊎ (first (front ++ number if u ∷ behind) ≡ number)
-        → (cond a (c .number) (first (front ++ number if t ∷ behind)) ≡ cond a (c .number) (first (front ++ number if u ∷ behind)))
-        ⊎ (cond a (c .number) (first (front ++ number if u ∷ behind)) ≡ number)
-    go true e = inl refl
-    go false e = e
 
 -- what crosses a page of a multiple of a size crosses one of that size
 crosses : (a : Bool) (page times start n : ℕ) → (a && not (onePage (page * times) start n)) ≡ true → (a && not (onePage page start n)) ≡ true
@@ -115,13 +99,6 @@ refused-by-32 w safe e shows refused a =
 
 -- ---- the bytes that changed
 
--- two bytes of a write that lies in one page lie in that page
-one-page : (page start n j : ℕ) → 0 < page → onePage page start n ≡ true → start ≤ j → j < start + n → j / page ≡ start / page
-one-page page start n j some h from to =
-    let l = leb-true _ page (sym (within-page page start n some) ∙ h) in
-    let at : j ≡ start + (j - start) = omega arith in
-    ap (λ (x : ℕ). x / page) at ∙ same-page page start (j - start) some (omega arith)
-
 -- a byte of the memory that an accepted write changed lies in the page of its start
 touched : (w : World) (setup host : List ℕ) (room j : ℕ) → requestOf (setupOf setup) ≡ Known LoadConfigData
     → answer w (Control setup host room) ≡ 0
@@ -152,8 +129,11 @@ memory-after : (w : World) (e : Event) → step w e .next .memory ≡ cond (done
 unfolding step
 memory-after w e = refl
 
+unwritten : (w : World) (e : Event) (j : ℕ) → isWrite e ≡ false → (byte j (step w e .next .memory) ≡ byte j (w .memory) → ⊥) → ⊥
+unwritten w e j h changed = changed (ap (byte j) (no-other-writes w e h .1))
+
 pub one-page-is-touched : OnePageIsTouched rules
-one-page-is-touched w BusReset j k p q = absurd (p (ap (byte j) (no-other-writes w BusReset refl .1)))
+one-page-is-touched w BusReset j k p q = absurd (unwritten w BusReset j refl p)
 one-page-is-touched w (Control setup host room) j k p q = at j p ∙ sym (at k q)
   where
     e : Event
@@ -164,13 +144,13 @@ one-page-is-touched w (Control setup host room) j k p q = at j p ∙ sym (at k q
       where
         go : (t : Bool) → isWrite e ≡ t → (u : Bool) → done (answer w e) ≡ u
             → (byte j (cond u (memoryDone (w .memory) e) (w .memory)) ≡ byte j (w .memory) → ⊥) → j / pageIn w ≡ word 4 setup / pageIn w
-        go false h u d changed = absurd (p (ap (byte j) (no-other-writes w e h .1)))
+        go false h u d changed = absurd (unwritten w e j h p)
         go true h false d changed = absurd (changed refl)
         go true h true d changed =
             let pair = and-eq-true-iff (eqb (byte 0 setup) 0x40) (eqb (byte 1 setup) 0x01) .0 h in
             touched w setup host room j (is-load (setupOf setup) (eqb-true _ _ (pair .0)) (eqb-true _ _ (pair .1))) (eqb-true _ 0 d) changed
-one-page-is-touched w (Packet bytes room) j k p q = absurd (p (ap (byte j) (no-other-writes w (Packet bytes room) refl .1)))
-one-page-is-touched w (Report direction failed amount) j k p q = absurd (p (ap (byte j) (no-other-writes w (Report direction failed amount) refl .1)))
-one-page-is-touched w (StatusRequest room) j k p q = absurd (p (ap (byte j) (no-other-writes w (StatusRequest room) refl .1)))
-one-page-is-touched w (Burst bytes) j k p q = absurd (p (ap (byte j) (no-other-writes w (Burst bytes) refl .1)))
-one-page-is-touched w (EndMark room) j k p q = absurd (p (ap (byte j) (no-other-writes w (EndMark room) refl .1)))
+one-page-is-touched w (Packet bytes room) j k p q = absurd (unwritten w (Packet bytes room) j refl p)
+one-page-is-touched w (Report direction failed amount) j k p q = absurd (unwritten w (Report direction failed amount) j refl p)
+one-page-is-touched w (StatusRequest room) j k p q = absurd (unwritten w (StatusRequest room) j refl p)
+one-page-is-touched w (Burst bytes) j k p q = absurd (unwritten w (Burst bytes) j refl p)
+one-page-is-touched w (EndMark room) j k p q = absurd (unwritten w (EndMark room) j refl p)

@@ -3,10 +3,12 @@ use mathlib.Core.Path.{_≡_}
 use mathlib.Core.Logic.{_⊎_}
 use mathlib.Core.Bool.{Bool, true}
 use Prim.Native.Nat.{ℕ, _*_, _/_}
+use Rattle.rules.specs.declared.Bridge.{Bridge}
+use Rattle.rules.specs.declared.Dock.{Dock}
 use Rattle.rules.specs.declared.PageSize.{PageSize}
 use Rattle.rules.specs.declared.PageSize.the-variants.{Of32, Of256}
 use Rattle.rules.specs.Words.{byte}
-use Rattle.rules.specs.Held.{World, pageBytes, docked}
+use Rattle.rules.specs.Held.{World, world, holding, pageBytes, docked}
 use Rattle.rules.specs.Step.{Event, Machine}
 use Rattle.rules.specs.Demands.Coherence.{pageIn}
 
@@ -25,18 +27,9 @@ MultiplesTakeMore onePage = (page times start n : ℕ) → onePage page start n 
 -- the same dock but for its page size
 abbrev pub paged : PageSize → World → World
 paged page w =
-    record {
-      bridge =
-          record {
-            dock = docked (w .bridge .dock .«bus_powered») page;
-            configured = w .bridge .configured;
-            phase = w .bridge .phase;
-            halts = w .bridge .halts;
-          };
-      bytes = w .bytes;
-      memory = w .memory;
-      held = w .held;
-    }
+    let b : Bridge = w .bridge in
+    let dock : Dock = docked (b .dock .«bus_powered») page in
+    holding (w .held) (world (record { dock = dock; configured = b .configured; phase = b .phase; halts = b .halts }) (w .bytes) (w .memory))
 
 -- A dock with smaller pages refuses more, by 10, and accepts nothing new: with a multiple of its page size every event is answered as before, or was
 -- answered 10.
