@@ -169,7 +169,7 @@ soft-drops p = either (λ c. drops c ≡ true) (isStopped p) _ _ refl refl
 
 report-keeps : (direction failed amount : ℕ) (p : Phase) → drops (reportTaken direction failed amount p) ≡ false
 report-keeps direction failed amount Awaiting = refl
-report-keeps direction failed amount (Busy host tag l) = refl
+report-keeps direction failed amount (Busy host lun tag l) = refl
 report-keeps direction failed amount (StatusWaiting tag residue status) = refl
 report-keeps direction failed amount (Stopped reset) = refl
 

@@ -18,6 +18,8 @@ pub mod Statuses
 pub mod Turns
 pub mod Settings
 pub mod Pages
+pub mod Luns
+pub mod OneDrive
 pub mod Mends
 pub mod Numbers
 pub mod Descriptors

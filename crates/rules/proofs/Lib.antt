@@ -1,6 +1,7 @@
 pub mod Checks
 pub mod Rows
 pub mod Pages
+pub mod Luns
 pub mod Changes
 pub mod Bursts
 pub mod Promises

@@ -94,7 +94,7 @@ module _ (b : Bridge) (signature : ℕ) (p room : List ℕ) where
   unfolding packetAnswer
   packet-unawaited n a other =
       let d : done n ≡ false = ne-eqb n 0 other in
-      let decided : packetAnswer b p needed (length room) ≡ n = first-append (unawaitedChecks b) (awaitedChecks p needed (length room)) refl ∙ rw (← a, d) in
+      let decided : packetAnswer b p needed (length room) ≡ n = first-append (unawaitedChecks b) (awaitedChecks (b .dock .drives) p needed (length room)) refl ∙ rw (← a, d) in
       let unharmed : damaged n ≡ false = not-true _ (rw (← a) at (answer-has (λ k. not (damaged k)) (unawaitedChecks b) refl)) in
       rw unharmed at (packet-refused n decided d)
 

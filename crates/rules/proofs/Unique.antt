@@ -5,8 +5,11 @@ use Rattle.rules.proofs.Bridge.«power_on» as BridgePowerOn
 use Rattle.rules.proofs.«power_on_bytes» as PowerOnBytes
 use Rattle.rules.proofs.Direction.number as DirectionNumber
 use Rattle.rules.proofs.Direction.«is_in» as DirectionIsIn
+use Rattle.rules.proofs.Lun.number as LunNumber
 use Rattle.rules.proofs.PageSize.of as PageSizeOf
 use Rattle.rules.proofs.PageSize.bytes as PageSizeBytes
+use Rattle.rules.proofs.Drives.of as DrivesOf
+use Rattle.rules.proofs.Drives.«max_lun» as DrivesMaxLun
 use Rattle.rules.proofs.addresses.StringIndex.address as StringIndexAddress
 use Rattle.rules.proofs.addresses.Address.number as AddressNumber
 
@@ -37,3 +40,12 @@ pub «PageSize::of» : OneOutcome PageSizeOf.Kinds.ps PageSizeOf.Kinds.r PageSiz
 
 pub «PageSize::bytes» : OneOutcome PageSizeBytes.Kinds.ps PageSizeBytes.Kinds.r PageSizeBytes.Reads.Post
 «PageSize::bytes» κs a r r' left left' p q = (only p q, refl)
+
+pub «Lun::number» : OneOutcome LunNumber.Kinds.ps LunNumber.Kinds.r LunNumber.Reads.Post
+«Lun::number» κs a r r' left left' p q = (only p q, refl)
+
+pub «Drives::of» : OneOutcome DrivesOf.Kinds.ps DrivesOf.Kinds.r DrivesOf.Reads.Post
+«Drives::of» κs a r r' left left' p q = (only p q, refl)
+
+pub «Drives::max_lun» : OneOutcome DrivesMaxLun.Kinds.ps DrivesMaxLun.Kinds.r DrivesMaxLun.Reads.Post
+«Drives::max_lun» κs a r r' left left' p q = (only p q, refl)

@@ -5,6 +5,7 @@ use mathlib.Core.List.{List, [], _∷_, _++_}
 use lib.ListN.{length}
 use lib.Dec.{eqb, ltb}
 use Rattle.rules.specs.declared.Bridge.{Bridge}
+use Rattle.rules.specs.declared.Drives.{Drives}
 use Rattle.rules.specs.declared.Request.the-variants.{LoadConfigData}
 use Rattle.rules.specs.declared.Seen.{Seen}
 use Rattle.rules.specs.declared.Setup.{Setup}
@@ -80,15 +81,15 @@ unawaitedChecks b =
     []
 
 -- .. and those of a packet that is awaited, where `needed` is how many operations it makes.
-abbrev pub awaitedChecks : List ℕ → ℕ → ℕ → List Check
-awaitedChecks p needed room =
+abbrev pub awaitedChecks : Drives → List ℕ → ℕ → ℕ → List Check
+awaitedChecks drives p needed room =
     13 if not (valid p) ∷
-    14 if not (meaningful (commandOf p)) ∷
+    14 if not (meaningful drives (commandOf p)) ∷
     15 if ltb room needed ∷
     []
 
 abbrev pub packetChecks : Bridge → List ℕ → ℕ → ℕ → List Check
-packetChecks b p needed room = unawaitedChecks b ++ awaitedChecks p needed room
+packetChecks b p needed room = unawaitedChecks b ++ awaitedChecks (b .dock .drives) p needed room
 
 unfoldable pub packetAnswer : Bridge → List ℕ → ℕ → ℕ → ℕ
 packetAnswer b p needed room = first (packetChecks b p needed room)

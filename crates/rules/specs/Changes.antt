@@ -18,7 +18,7 @@ made Resets b = inPhase Awaiting b
 -- "no effect on a stop"
 made Drops b = b
 -- "makes the phase busy"
-made (Begins direction tag l) b = inPhase (Busy direction tag l) b
+made (Begins direction lun tag l) b = inPhase (Busy direction lun tag l) b
 -- "The phase becomes status waiting", "and the pipe of the direction is halted" or not
 made (Finishes direction halts status tag residue) b = halting halts direction (inPhase (StatusWaiting tag residue status) b)
 -- "halts both pipes and stops the bridge"
@@ -38,7 +38,7 @@ drops (Sets c) = true
 drops Awaits = false
 drops Resets = true
 drops Drops = true
-drops (Begins direction tag l) = false
+drops (Begins direction lun tag l) = false
 drops (Finishes direction halts status tag residue) = false
 drops Stops = false
 drops Notes = true

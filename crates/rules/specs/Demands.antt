@@ -12,6 +12,7 @@ pub mod Makers
 pub mod Coherence
 pub mod Settings
 pub mod Pages
+pub mod Drives
 pub mod Mends
 pub mod Numbers
 pub mod Descriptors

@@ -7,8 +7,12 @@ use lib.Dec.{eqb}
 use Rattle.rules.specs.declared.Bridge.{Bridge}
 use Rattle.rules.specs.declared.Direction.{Direction}
 use Rattle.rules.specs.declared.Dock.{Dock}
+use Rattle.rules.specs.declared.Drives.{Drives}
+use Rattle.rules.specs.declared.Drives.the-variants.{One, Two}
 use Rattle.rules.specs.declared.Direction.the-variants.{Out, In}
 use Rattle.rules.specs.declared.Halts.{Halts}
+use Rattle.rules.specs.declared.Lun.{Lun}
+use Rattle.rules.specs.declared.Lun.the-variants.{Lun0, Lun1}
 use Rattle.rules.specs.declared.PageSize.{PageSize}
 use Rattle.rules.specs.declared.PageSize.the-variants.{Of32, Of64, Of128, Of256}
 use Rattle.rules.specs.declared.Phase.{Phase}
@@ -56,6 +60,23 @@ pageBytes Of256 = 256
 unfoldable pub pageOf : ℕ → PageSize
 pageOf n = cond (eqb n 64) Of64 (cond (eqb n 128) Of128 (cond (eqb n 256) Of256 Of32))
 
+-- "The desk dock holds two", "when the dock says, at power-on, two drives": the number 2 says two, every other number says one
+unfoldable pub drivesOf : ℕ → Drives
+drivesOf n = cond (eqb n 2) Two One
+
+abbrev pub driveCount : Drives → ℕ
+driveCount One = 1
+driveCount Two = 2
+
+-- Get Max LUN: "byte 0"; with two drives it "answers 1"
+abbrev pub maxLun : Drives → ℕ
+maxLun One = 0
+maxLun Two = 1
+
+abbrev pub lunNumber : Lun → ℕ
+lunNumber Lun0 = 0
+lunNumber Lun1 = 1
+
 -- "A halt mark for bulk out (0x01) and one for bulk in (0x82)."
 abbrev pub bulkOut : ℕ
 bulkOut = 0x01
@@ -66,9 +87,9 @@ bulkIn = 0x82
 abbrev pub marks : Bool → Bool → Halts
 marks out back = record { outward = out; inward = back }
 
--- What is fixed at power-on, told of the dock: whether it is bus powered, and its page size.
-abbrev pub docked : Bool → PageSize → Dock
-docked powered page = record { «bus_powered» = powered; page = page }
+-- What is fixed at power-on, told of the dock: whether it is bus powered, its page size, and its drives.
+abbrev pub docked : Bool → PageSize → Drives → Dock
+docked powered page drives = record { «bus_powered» = powered; page = page; drives = drives }
 
 -- "At power-on: configuration 0, awaiting, no halts."
 abbrev pub powerOn : Dock → Bridge
@@ -125,24 +146,24 @@ clearing In b = halted (b .halts .outward) false b
 
 abbrev pub isAwaiting : Phase → Bool
 isAwaiting Awaiting = true
-isAwaiting (Busy direction tag l) = false
+isAwaiting (Busy direction lun tag l) = false
 isAwaiting (StatusWaiting tag residue status) = false
 isAwaiting (Stopped reset) = false
 
 abbrev pub isBusy : Phase → Bool
 isBusy Awaiting = false
-isBusy (Busy direction tag l) = true
+isBusy (Busy direction lun tag l) = true
 isBusy (StatusWaiting tag residue status) = false
 isBusy (Stopped reset) = false
 
 abbrev pub isStatusWaiting : Phase → Bool
 isStatusWaiting Awaiting = false
-isStatusWaiting (Busy direction tag l) = false
+isStatusWaiting (Busy direction lun tag l) = false
 isStatusWaiting (StatusWaiting tag residue status) = true
 isStatusWaiting (Stopped reset) = false
 
 abbrev pub isStopped : Phase → Bool
 isStopped Awaiting = false
-isStopped (Busy direction tag l) = false
+isStopped (Busy direction lun tag l) = false
 isStopped (StatusWaiting tag residue status) = false
 isStopped (Stopped reset) = true

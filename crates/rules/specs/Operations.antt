@@ -1,10 +1,12 @@
--- Register operations: what a recognised block makes of its sixteen bytes, L and the direction.
+-- Register operations: what a recognised block makes of its sixteen bytes, L, the direction and the LUN.
 use Prim.Native.Nat.{ℕ, _+_, _-_, _*_}
 use mathlib.Core.Bool.{Bool, true, false, cond, not}
 use mathlib.Core.List.{List, [], _∷_, _++_}
 use lib.Dec.{ltb}
 use Rattle.rules.specs.declared.Direction.{Direction}
+use Rattle.rules.specs.declared.Lun.{Lun}
 use Rattle.rules.specs.Words.{byte, bit, bitOf, one}
+use Rattle.rules.specs.Held.{lunNumber}
 use Rattle.rules.specs.Packets.{inward}
 
 pub data Operation : Type 0 where
@@ -47,19 +49,17 @@ only false o = []
 abbrev pub polls : List ℕ → List Operation
 polls block = only (not (bit 2 (action block))) Poll
 
--- "byte 11 if register 6 is selected, else 0; in it bit 4 becomes bit 4 of byte 11 if action bit 5 is set, else 0"
+-- "Select, 0x02 and a byte: byte 11 if register 6 is selected, else 0; in it bit 4 becomes bit 4 of byte 11 if action bit 5 is set, else 0"
 abbrev pub withBit4 : ℕ → ℕ → ℕ
 withBit4 new b = b - 16 * bitOf 4 b + 16 * new
 
--- Request 4: "When register 6 isn't selected we send 0x00 or 0x10. It should be 0xA0 or 0xB0." Of the action, byte 3 and byte 11.
-abbrev pub deviceByte : ℕ → ℕ → ℕ → ℕ
-deviceByte act registers device = withBit4 (cond (bit 5 act) (bitOf 4 device) 0) (cond (bit 6 registers) device 0xA0)
+-- Request 4: "When register 6 isn't selected we send 0x00 or 0x10. It should be 0xA0 or 0xB0." Request 7: "where action bit 5 is clear the select's bit 4
+-- is the LUN instead of 0". Of the LUN, the action, byte 3 and byte 11.
+abbrev pub deviceByte : Lun → ℕ → ℕ → ℕ → ℕ
+deviceByte lun act registers device = withBit4 (cond (bit 5 act) (bitOf 4 device) (lunNumber lun)) (cond (bit 6 registers) device 0xA0)
 
-abbrev pub selectByte : List ℕ → ℕ
-selectByte block = deviceByte (action block) (byte 3 block) (byte 11 block)
-
-abbrev pub selects : List ℕ → List Operation
-selects block = Select (selectByte block) ∷ []
+abbrev pub selectByte : Lun → List ℕ → ℕ
+selectByte lun block = deviceByte lun (action block) (byte 3 block) (byte 11 block)
 
 abbrev pub writes : List ℕ → List ℕ → List Operation
 writes block [] = []
@@ -78,23 +78,25 @@ abbrev pub transfers : List ℕ → ℕ → Direction → List Operation
 transfers block l d = only (ltb 0 l) (Transfer (transferByte (action block) d))
 
 -- ".. select; write 7 if selected; .. With action bit 1 set, the select follows the place of write 7 instead."
-abbrev pub commanded : List ℕ → List Operation
-commanded block =
-    cond (bit 1 (action block)) (writes block (7 ∷ []) ++ selects block) (selects block ++ writes block (7 ∷ []))
+abbrev pub commanded : ℕ → List ℕ → List Operation
+commanded select block =
+    cond (bit 1 (action block)) (writes block (7 ∷ []) ++ Select select ∷ []) (Select select ∷ writes block (7 ∷ []))
 
 -- "poll; writes of selected 0 to 5, rising; select; write 7 if selected; transfer if L > 0; read 7."
-abbrev pub writeBlock : List ℕ → ℕ → Direction → List Operation
-writeBlock block l d =
+abbrev pub writeBlock : ℕ → List ℕ → ℕ → Direction → List Operation
+writeBlock select block l d =
     polls block
     ++ writes block (0 ∷ 1 ∷ 2 ∷ 3 ∷ 4 ∷ 5 ∷ [])
-    ++ commanded block
+    ++ commanded select block
     ++ transfers block l d
     ++ Read 7 ∷ []
 
 -- "poll, select, reads of selected 0 to 7, rising"
-abbrev pub readBlock : List ℕ → List Operation
-readBlock block = polls block ++ selects block ++ reads block (0 ∷ 1 ∷ 2 ∷ 3 ∷ 4 ∷ 5 ∷ 6 ∷ 7 ∷ [])
+abbrev pub readBlock : ℕ → List ℕ → List Operation
+readBlock select block = polls block ++ Select select ∷ [] ++ reads block (0 ∷ 1 ∷ 2 ∷ 3 ∷ 4 ∷ 5 ∷ 6 ∷ 7 ∷ [])
 
 -- "Action bit 0 clear: .. Action bit 0 set: .."
-unfoldable pub operationsOf : List ℕ → ℕ → Direction → List Operation
-operationsOf block l d = cond (bit 0 (action block)) (readBlock block) (writeBlock block l d)
+unfoldable pub operationsOf : Lun → List ℕ → ℕ → Direction → List Operation
+operationsOf lun block l d =
+    let select : ℕ = selectByte lun block in
+    cond (bit 0 (action block)) (readBlock select block) (writeBlock select block l d)

@@ -1,5 +1,5 @@
 -- Packets: the layout of command and status packets, validity, meaning, and when a block is recognised.
-use Prim.Native.Nat.{ℕ, _+_}
+use Prim.Native.Nat.{ℕ}
 use mathlib.Core.Bool.{Bool, true, false, cond, not, _&&_, _||_}
 use mathlib.Core.List.{List, [], _∷_, _++_}
 use lib.ListN.{length, drop}
@@ -9,8 +9,12 @@ use Rattle.rules.specs.declared.Change.the-variants.{Begins, Finishes}
 use Rattle.rules.specs.declared.CommandPacket.{CommandPacket}
 use Rattle.rules.specs.declared.Direction.{Direction}
 use Rattle.rules.specs.declared.Direction.the-variants.{Out, In}
+use Rattle.rules.specs.declared.Drives.{Drives}
 use Rattle.rules.specs.declared.Layout.{Layout}
+use Rattle.rules.specs.declared.Lun.{Lun}
+use Rattle.rules.specs.declared.Lun.the-variants.{Lun0, Lun1}
 use Rattle.rules.specs.Words.{byte, long, bytes4, bit}
+use Rattle.rules.specs.Held.{driveCount}
 
 -- "A command packet is 31 bytes: 55 53 42 43, .." "A status packet is 13 bytes: 55 53 42 53, .."
 abbrev pub commandLayout : Layout
@@ -31,9 +35,21 @@ blockOf p = drop 15 p
 unfoldable pub valid : List ℕ → Bool
 valid p = eqb (length p) (commandLayout .length) && eqb (long 0 p) (commandLayout .signature)
 
--- "Meaningful: flags 0x00 or 0x80, LUN byte 0, block length 1 to 16."
-unfoldable pub meaningful : CommandPacket → Bool
-meaningful c = (eqb (c .flags) 0x00 || eqb (c .flags) 0x80) && eqb (c .lun) 0 && leb 1 (c .«block_length») && leb (c .«block_length») 16
+-- "Meaningful: flags 0x00 or 0x80, .. block length 1 to 16"
+unfoldable pub sensible : CommandPacket → Bool
+sensible c = (eqb (c .flags) 0x00 || eqb (c .flags) 0x80) && leb 1 (c .«block_length») && leb (c .«block_length») 16
+
+-- .. and of the LUN request 7: "LUN 0 and 1 are both meaningful when the dock says, at power-on, two drives", else 0 alone; "LUN bytes 2 and above, 0x10
+-- and 0x11 included, stay answer 14". It is below the count, all of its byte.
+unfoldable pub meaningful : Drives → CommandPacket → Bool
+meaningful drives c = sensible c && ltb (c .lun) (driveCount drives)
+
+-- the drive of a LUN byte that is meaningful
+abbrev pub driveOf : ℕ → Lun
+driveOf lun = cond (eqb lun 0) Lun0 Lun1
+
+abbrev pub lunOf : CommandPacket → Lun
+lunOf c = driveOf (c .lun)
 
 -- "Flags 0x80 means in; direction is ignored if L = 0."
 abbrev pub directionOf : CommandPacket → Direction
@@ -64,9 +80,12 @@ abbrev pub recognises : ℕ → List ℕ → Bool
 recognises signature p = recognised signature (blockOf p) (commandOf p .«block_length») (commandOf p .length) (directionOf (commandOf p))
 
 -- "The phase becomes status waiting with status 1 and residue L, and the pipe of the direction is halted if L > 0."
--- "A recognised block with room enough makes the phase busy."
+-- "A recognised block with room enough makes the phase busy." Request 7: "The busy record keeps the LUN."
+abbrev pub begins : Lun → CommandPacket → Change
+begins lun c = Begins (directionOf c) lun (c .tag) (c .length)
+
 abbrev pub commandTaken : Bool → CommandPacket → Change
-commandTaken true c = Begins (directionOf c) (c .tag) (c .length)
+commandTaken true c = begins (lunOf c) c
 commandTaken false c = Finishes (directionOf c) (ltb 0 (c .length)) 1 (c .tag) (c .length)
 
 -- "55 53 42 53, tag, residue (4), status"

@@ -44,6 +44,6 @@ finished wrong host tag l failed amount =
 
 abbrev pub reportTaken : ℕ → ℕ → ℕ → Phase → Change
 reportTaken direction failed amount Awaiting = Nothing
-reportTaken direction failed amount (Busy host tag l) = finished (mismatch l host direction amount) host tag l failed amount
+reportTaken direction failed amount (Busy host lun tag l) = finished (mismatch l host direction amount) host tag l failed amount
 reportTaken direction failed amount (StatusWaiting tag residue status) = Nothing
 reportTaken direction failed amount (Stopped reset) = Nothing

@@ -14,7 +14,7 @@ use Rattle.rules.specs.declared.Setup.{Setup}
 use Rattle.rules.specs.declared.Stands.{Stands}
 use Rattle.rules.specs.declared.Stands.the-variants.{InRoom, InMemory}
 use Rattle.rules.specs.Words.{byte, word, one, over}
-use Rattle.rules.specs.Held.{World, configuration, fitted, bulkOut, bulkIn}
+use Rattle.rules.specs.Held.{World, configuration, fitted, maxLun, bulkOut, bulkIn}
 use Rattle.rules.specs.Descriptors.{firstString, placeIn, told}
 use Rattle.rules.specs.Stopping.{clearFeature, massStorageReset, softReset}
 
@@ -161,7 +161,7 @@ replyTo (Known SetConfiguration) s w = []
 replyTo (Known GetConfiguration) s w = configuration (w .bridge) ∷ []
 replyTo (Known ClearFeature) s w = []
 replyTo (Known GetStatus) s w = one (haltOf (s .index) (w .bridge)) ∷ 0 ∷ []
-replyTo (Known GetMaxLun) s w = 0 ∷ []
+replyTo (Known GetMaxLun) s w = maxLun (w .bridge .dock .drives) ∷ []
 replyTo (Known MassStorageReset) s w = []
 replyTo (Known LoadConfigData) s w = []
 replyTo (Known ReadConfigData) s w = take (s .length) (drop (s .index) (storeOf (s .value) w))

@@ -6,6 +6,7 @@ use lib.ListN.{length}
 use lib.Dec.{eqb}
 use Rattle.rules.specs.declared.Change.{Change}
 use Rattle.rules.specs.declared.Change.the-variants.{Nothing, Sets, Awaits, Stops}
+use Rattle.rules.specs.declared.CommandPacket.{CommandPacket}
 use Rattle.rules.specs.declared.Phase.{Phase}
 use Rattle.rules.specs.declared.Phase.the-variants.{Awaiting, Busy, StatusWaiting, Stopped}
 use Rattle.rules.specs.declared.Stands.{Stands}
@@ -13,7 +14,7 @@ use Rattle.rules.specs.declared.Stands.the-variants.{InRoom}
 use Rattle.rules.specs.Held.{World, Start, world, holding, powered}
 use Rattle.rules.specs.Changes.{made, drops}
 use Rattle.rules.specs.Requests.{setupOf, requestOf, replyTo, standing, changeBy, bytesAfter, memoryAfter}
-use Rattle.rules.specs.Packets.{commandOf, blockOf, directionOf, signatureOf, recognises, commandTaken, statusPacket}
+use Rattle.rules.specs.Packets.{commandOf, blockOf, directionOf, lunOf, signatureOf, recognises, commandTaken, statusPacket}
 use Rattle.rules.specs.Bursts.{kept}
 use Rattle.rules.specs.Operations.{codes, operationsOf}
 use Rattle.rules.specs.Reports.{reportTaken}
@@ -40,12 +41,13 @@ pub record Outcome (State : Type 0) : Type 0 where
 -- "An unrecognised block makes no operations."
 abbrev pub operationsFor : ℕ → List ℕ → List ℕ
 operationsFor signature p =
-    cond (recognises signature p) (codes (operationsOf (blockOf p) (commandOf p .length) (directionOf (commandOf p)))) []
+    let c : CommandPacket = commandOf p in
+    cond (recognises signature p) (codes (operationsOf (lunOf c) (blockOf p) (c .length) (directionOf c))) []
 
 -- "A status request hands it out and the bridge then awaits."
 abbrev pub statusReply : Phase → List ℕ
 statusReply Awaiting = []
-statusReply (Busy direction tag l) = []
+statusReply (Busy direction lun tag l) = []
 statusReply (StatusWaiting tag residue status) = statusPacket tag residue status
 statusReply (Stopped reset) = []
 

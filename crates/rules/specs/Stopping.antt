@@ -14,7 +14,7 @@ use Rattle.rules.specs.Held.{bulkOut, isStopped}
 -- "Before a Mass Storage Reset, Clear Feature answers 0 and clears nothing."
 abbrev pub clears : Phase → Bool
 clears Awaiting = true
-clears (Busy direction tag l) = true
+clears (Busy direction lun tag l) = true
 clears (StatusWaiting tag residue status) = true
 clears (Stopped reset) = reset
 

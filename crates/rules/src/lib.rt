@@ -1,7 +1,7 @@
 // The types of the paper: what the bridge holds, what an event changes of it, the requests of its table and what they are judged by, and the
 // two kinds of packet with their constants.
 ghost use mathlib.Core.Path.{_≡_};
-ghost use Rattle.rules.specs.Held.{pageBytes, pageOf, powerOn, powerOnBytes};
+ghost use Rattle.rules.specs.Held.{drivesOf, lunNumber, maxLun, pageBytes, pageOf, powerOn, powerOnBytes};
 ghost use Rattle.rules.specs.Packets.{commandLayout, inward, statusLayout};
 ghost use Rattle.rules.specs.Reports.{directionNumber};
 
@@ -38,10 +38,28 @@ impl Direction {
     }
 }
 
+// The drive that a command is for.
+pub enum Lun {
+    Lun0,
+    Lun1,
+}
+
+impl Lun {
+    pub fn number(self) -> u8
+        ensures { λ r. ⌜ r ≡ lunNumber self ⌝ }
+    {
+        match self {
+            Lun::Lun0 => 0,
+            Lun::Lun1 => 1,
+        }
+    }
+}
+
 pub enum Phase {
     Awaiting,
     Busy {
         direction: Direction,
+        lun: Lun,
         tag: u32,
         length: u32,
     },
@@ -95,10 +113,38 @@ impl PageSize {
     }
 }
 
+// How many drives the dock holds.
+pub enum Drives {
+    One,
+    Two,
+}
+
+impl Drives {
+    // The number 2 says two, every other number says one.
+    pub fn of(number: u32) -> Self
+        ensures { λ r. ⌜ r ≡ drivesOf number ⌝ }
+    {
+        match number {
+            2 => Drives::Two,
+            _ => Drives::One,
+        }
+    }
+
+    pub fn max_lun(self) -> u8
+        ensures { λ r. ⌜ r ≡ maxLun self ⌝ }
+    {
+        match self {
+            Drives::One => 0,
+            Drives::Two => 1,
+        }
+    }
+}
+
 // What is fixed at power-on.
 pub struct Dock {
     pub bus_powered: bool,
     pub page: PageSize,
+    pub drives: Drives,
 }
 
 pub struct Bridge {
@@ -143,6 +189,7 @@ pub enum Change {
     Drops,
     Begins {
         direction: Direction,
+        lun: Lun,
         tag: u32,
         length: u32,
     },

@@ -79,7 +79,7 @@ burst-is-held w bytes =
 clear-drops : (b : Bridge) (p : Phase) (d : Direction) (other : Bool)
     → (let c = clearsPipe p d other in drops c ≡ (isStopped p && not (isStopped (made c (inPhase p b) .phase))))
 clear-drops b Awaiting d other = refl
-clear-drops b (Busy direction tag l) d other = refl
+clear-drops b (Busy direction lun tag l) d other = refl
 clear-drops b (StatusWaiting tag residue status) d other = refl
 clear-drops b (Stopped false) d other = refl
 clear-drops b (Stopped true) Out true = refl

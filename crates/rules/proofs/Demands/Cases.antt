@@ -10,6 +10,7 @@ use borrow.Author.Tests.{eqb-true, eqb-false, ltb-true, ltb-false, eq-eqb, ne-eq
 use Rattle.rules.specs.declared.Bridge.{Bridge}
 use Rattle.rules.specs.declared.Direction.{Direction}
 use Rattle.rules.specs.declared.Direction.the-variants.{Out, In}
+use Rattle.rules.specs.declared.Lun.{Lun}
 use Rattle.rules.specs.declared.Phase.the-variants.{Busy}
 use Rattle.rules.specs.Words.{one}
 use Rattle.rules.specs.Held.{World}
@@ -130,19 +131,19 @@ module _ (tag l failed direction amount : ℕ) (b next : Bridge) where
   settle Out x n p (outward d q m) (fewer r s t) = rw (n, m, r, s, t) (refl, rw (n, d, q, p, r, t) at x)
 
 -- a report that is not malformed is answered 0, and finishes the command
-pub report-taken : (w : World) (host : Direction) (tag l : ℕ) (direction failed amount : ℕ) → w .bridge .configured ≡ true
-    → w .bridge .phase ≡ Busy host tag l → malformed direction failed amount ≡ false
+pub report-taken : (w : World) (host : Direction) (lun : Lun) (tag l : ℕ) (direction failed amount : ℕ) → w .bridge .configured ≡ true
+    → w .bridge .phase ≡ Busy host lun tag l → malformed direction failed amount ≡ false
     → (step w (Report direction failed amount) .answer ≡ 0)
     × (step w (Report direction failed amount) .next .bridge
     ≡ made (finished (mismatch l host direction amount) host tag l failed amount) (w .bridge))
 unfolding step change reportAnswer
-report-taken w host tag l direction failed amount c p m = (rw (c, p, m), rw (c, p, m))
+report-taken w host lun tag l direction failed amount c p m = (rw (c, p, m), rw (c, p, m))
 
 pub thirteen-cases : ThirteenCases rules
-thirteen-cases w host tag l direction failed amount c p d f a =
+thirteen-cases w host lun tag l direction failed amount c p d f a =
     let b : Bridge = w .bridge in
     let next : Bridge = step w (Report direction failed amount) .next .bridge in
-    let r = report-taken w host tag l direction failed amount c p (legal direction failed amount d f a) in
+    let r = report-taken w host lun tag l direction failed amount c p (legal direction failed amount d f a) in
     let s = by (eqb l 0) refl (r .1) in
     (s .0, r .0, one-fits l host direction amount (Right tag l failed direction amount b next host) cases (s .0) (s .1))
   where

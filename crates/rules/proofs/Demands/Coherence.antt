@@ -43,7 +43,7 @@ Unset (Sets c) = ⊥
 Unset Awaits = Unit {0}
 Unset Resets = Unit {0}
 Unset Drops = Unit {0}
-Unset (Begins direction tag l) = Unit {0}
+Unset (Begins direction lun tag l) = Unit {0}
 Unset (Finishes direction halts status tag residue) = Unit {0}
 Unset Stops = Unit {0}
 Unset Notes = Unit {0}
@@ -56,7 +56,7 @@ kept (Sets c) b u = absurd u
 kept Awaits b u = refl
 kept Resets b u = refl
 kept Drops b u = refl
-kept (Begins direction tag l) b u = refl
+kept (Begins direction lun tag l) b u = refl
 kept (Finishes Out halts status tag residue) b u = refl
 kept (Finishes In halts status tag residue) b u = refl
 kept Stops b u = refl
@@ -71,7 +71,7 @@ command-unset false c = tt
 
 report-unset : (direction failed amount : ℕ) (p : Phase) → Unset (reportTaken direction failed amount p)
 report-unset direction failed amount Awaiting = tt
-report-unset direction failed amount (Busy host tag l) = tt
+report-unset direction failed amount (Busy host lun tag l) = tt
 report-unset direction failed amount (StatusWaiting tag residue status) = tt
 report-unset direction failed amount (Stopped reset) = tt
 
@@ -171,7 +171,7 @@ fixed (Sets c) b = refl
 fixed Awaits b = refl
 fixed Resets b = refl
 fixed Drops b = refl
-fixed (Begins direction tag l) b = refl
+fixed (Begins direction lun tag l) b = refl
 fixed (Finishes Out halts status tag residue) b = refl
 fixed (Finishes In halts status tag residue) b = refl
 fixed Stops b = refl
@@ -180,7 +180,7 @@ fixed (Clears Out) b = refl
 fixed (Clears In) b = refl
 fixed Ends b = refl
 
-run-fixed : (w : World) (history : List Event) → after rules w history .bridge .dock ≡ w .bridge .dock
+pub run-fixed : (w : World) (history : List Event) → after rules w history .bridge .dock ≡ w .bridge .dock
 unfolding step
 run-fixed w [] = refl
 run-fixed w (e ∷ es) = run-fixed (step w e .next) es ∙ fixed (change w e) (w .bridge)
@@ -244,7 +244,7 @@ damage-halts w q p room d =
 -- outside a stop Clear Feature clears
 running-clears : (p : Phase) → isStopped p ≡ false → clears p ≡ true
 running-clears Awaiting h = refl
-running-clears (Busy direction tag l) h = refl
+running-clears (Busy direction lun tag l) h = refl
 running-clears (StatusWaiting tag residue status) h = refl
 running-clears (Stopped reset) h = absurd (true≢false h)
 
@@ -285,7 +285,7 @@ status-keeps w room a = rw a ((refl, refl, refl), refl, refl)
 
 pub zeros-are-told : ZerosAreTold rules
 unfolding step change requestOf requestAnswer
-zeros-are-told w value index n c = rw (c, whole n, le-ltb n n (omega arith)) ((refl, refl), (refl, refl))
+zeros-are-told w value index n c = rw (c, whole n, le-ltb n n (omega arith)) (refl, refl)
 
 -- a request of the table that asks changes nothing of the bridge and writes nothing
 asking-rows : (s : Setup) (b : Bridge) → 0x80 ≤ s .kind

@@ -11,13 +11,16 @@ use lib.Dec.{eqb, ltb}
 use borrow.Author.Tests.{eqb-true, eqb-false, eq-eqb, lt-ltb, le-ltb, le-leb}
 use Rattle.rules.specs.declared.Direction.{Direction}
 use Rattle.rules.specs.declared.Direction.the-variants.{Out, In}
+use Rattle.rules.specs.declared.Drives.{Drives}
+use Rattle.rules.specs.declared.Lun.{Lun}
+use Rattle.rules.specs.declared.Lun.the-variants.{Lun0, Lun1}
 use Rattle.rules.specs.Words.{byte, bit, bitOf, one}
-use Rattle.rules.specs.Held.{World, world}
+use Rattle.rules.specs.Held.{World, driveCount, lunNumber, world}
 use Rattle.rules.specs.Changes.{made}
-use Rattle.rules.specs.Packets.{commandTaken, inward, statusPacket, commandOf, blockOf, directionOf, signatureOf, valid, meaningful, recognised, recognises}
+use Rattle.rules.specs.Packets.{commandTaken, inward, statusPacket, commandOf, blockOf, directionOf, driveOf, lunOf, signatureOf, valid, sensible, meaningful, recognised, recognises}
 use Rattle.rules.specs.Operations.{Operation, codes, action, selected, content, operationsOf}
 use Rattle.rules.specs.Answers.{packetAnswer}
-use Rattle.rules.specs.Step.{Packet, operationsFor, answer, change, step, rules}
+use Rattle.rules.specs.Step.{Packet, operationsFor, change, step, rules}
 use Rattle.rules.specs.Demands.Makers.{Askable, MadeIsBegun, flagsFor, packet, Fills, Free, eight, passThrough, PacketReadBack, BlockReadBack, StatusReadBack, MadeIsAccepted}
 use Rattle.rules.proofs.Rows.{four-bytes}
 use Rattle.rules.proofs.Demands.Operations.{counted}
@@ -29,8 +32,9 @@ pub joins : (n : ℕ) → n % 256 + 256 * (n / 256 % 256) + 65536 * (n / 256 / 2
 joins n = omega arith
 
 -- a made packet has its direction, with L = 0 none
-pub direction-made : (tag l : ℕ) (d : Direction) (block filling : List ℕ) → directionOf (commandOf (packet tag l d block filling)) ≡ cond (ltb 0 l) d Out
-direction-made tag l d block filling = rw (joins l) (go d (ltb 0 l))
+pub direction-made : (lun : Lun) (tag l : ℕ) (d : Direction) (block filling : List ℕ)
+    → directionOf (commandOf (packet lun tag l d block filling)) ≡ cond (ltb 0 l) d Out
+direction-made lun tag l d block filling = rw (joins l) (go d (ltb 0 l))
   where
     go : (d : Direction) (t : Bool) → cond (t && eqb (flagsFor d) 0x80) In Out ≡ cond t d Out
     go Out true = refl
@@ -38,8 +42,13 @@ direction-made tag l d block filling = rw (joins l) (go d (ltb 0 l))
     go d false = refl
 
 pub packet-read-back : PacketReadBack commandOf directionOf blockOf
-packet-read-back tag l d block filling =
-    let way = direction-made tag l d block filling in (simp joins, λ p. way ∙ rw (lt-ltb 0 l p), λ z. way ∙ rw z, refl)
+packet-read-back lun tag l d block filling =
+    let way = direction-made lun tag l d block filling in (simp joins, λ p. way ∙ rw (lt-ltb 0 l p), λ z. way ∙ rw z, refl)
+
+-- .. and its LUN
+drive-made : (lun : Lun) → driveOf (lunNumber lun) ≡ lun
+drive-made Lun0 = refl
+drive-made Lun1 = refl
 
 -- a bit as a number
 bit-most : (t : Bool) → one t ≤ 1
@@ -92,49 +101,51 @@ pub codes-length : (os : List Operation) → length (codes os) ≡ length os
 codes-length [] = refl
 codes-length (o ∷ os) = ap suc (codes-length os)
 
-pub operations-count : (block : List ℕ) (l : ℕ) (d : Direction) → (1 ≤ length (operationsOf block l d)) × (length (operationsOf block l d) ≤ 11)
-operations-count block l d = go (eqb (bitOf 0 (action block)) 1) refl
+pub operations-count : (lun : Lun) (block : List ℕ) (l : ℕ) (d : Direction)
+    → (1 ≤ length (operationsOf lun block l d)) × (length (operationsOf lun block l d) ≤ 11)
+operations-count lun block l d = go (eqb (bitOf 0 (action block)) 1) refl
   where
-    go : (t : Bool) → eqb (bitOf 0 (action block)) 1 ≡ t → (1 ≤ length (operationsOf block l d)) × (length (operationsOf block l d) ≤ 11)
-    go true e = let h = counted block l d .0 (eqb-true _ 1 e) in (omega (arith, h .0), omega (arith, h .1))
-    go false e = let h = counted block l d .1 (omega (arith, eqb-false (bitOf 0 (action block)) 1 e)) in (omega (arith, h .0), h .1)
+    go : (t : Bool) → eqb (bitOf 0 (action block)) 1 ≡ t → (1 ≤ length (operationsOf lun block l d)) × (length (operationsOf lun block l d) ≤ 11)
+    go true e = let h = counted lun block l d .0 (eqb-true _ 1 e) in (omega (arith, h .0), omega (arith, h .1))
+    go false e = let h = counted lun block l d .1 (omega (arith, eqb-false (bitOf 0 (action block)) 1 e)) in (omega (arith, h .0), h .1)
 
 pub needed-most : (signature : ℕ) (p : List ℕ) → length (operationsFor signature p) ≤ 11
 needed-most signature p = go (recognises signature p)
   where
     made : List Operation
-    made = operationsOf (blockOf p) (commandOf p .length) (directionOf (commandOf p))
+    made = operationsOf (lunOf (commandOf p)) (blockOf p) (commandOf p .length) (directionOf (commandOf p))
 
     go : (t : Bool) → length (cond t (codes made) []) ≤ 11
-    go true = rw codes-length (operations-count (blockOf p) (commandOf p .length) (directionOf (commandOf p)) .1)
+    go true = rw codes-length (operations-count (lunOf (commandOf p)) (blockOf p) (commandOf p .length) (directionOf (commandOf p)) .1)
     go false = omega arith
 
 -- a free bridge accepts what is valid and meaningful
-free-accepts : (w : World) (p : List ℕ) (room : ℕ) → Free w → valid p ≡ true → meaningful (commandOf p) ≡ true → 11 ≤ room
+free-accepts : (w : World) (p : List ℕ) (room : ℕ) → Free w → valid p ≡ true → meaningful (w .bridge .dock .drives) (commandOf p) ≡ true → 11 ≤ room
     → step w (Packet p room) .answer ≡ 0
 unfolding step packetAnswer
 free-accepts w p room free v m r =
     let n : length (operationsFor (signatureOf (w .bytes)) p) ≤ 11 = needed-most (signatureOf (w .bytes)) p in
     rw (free .configured, free .awaits, free .runs, v, m, le-ltb room (length (operationsFor (signatureOf (w .bytes)) p)) (omega arith))
 
-module _ (tag l : ℕ) (d : Direction) (block filling : List ℕ) (fills : Fills block filling) where
-  made-valid : valid (packet tag l d block filling) ≡ true
+module _ (lun : Lun) (tag l : ℕ) (d : Direction) (block filling : List ℕ) (fills : Fills block filling) where
+  made-valid : valid (packet lun tag l d block filling) ≡ true
   unfolding valid
   made-valid = rw (length-append block filling, fills .sixteen)
 
-  made-meaningful : meaningful (commandOf (packet tag l d block filling)) ≡ true
-  unfolding meaningful
-  made-meaningful =
+  made-meaningful : (drives : Drives) → lunNumber lun < driveCount drives → meaningful drives (commandOf (packet lun tag l d block filling)) ≡ true
+  unfolding meaningful sensible
+  made-meaningful drives has =
       let most : length block ≤ 16 = let e = fills .sixteen in omega arith in
-      rw (le-leb 1 (length block) (fills .some), le-leb (length block) 16 most) (flags d)
+      rw (le-leb 1 (length block) (fills .some), le-leb (length block) 16 most, lt-ltb (lunNumber lun) (driveCount drives) has) (flags d)
     where
       flags : (d : Direction) → ((eqb (flagsFor d) 0x00 || eqb (flagsFor d) 0x80) && true && true && true) ≡ true
       flags Out = refl
       flags In = refl
 
 pub made-is-accepted : MadeIsAccepted rules
-made-is-accepted w tag l d block filling room free fills r =
-    free-accepts w (packet tag l d block filling) room free (made-valid tag l d block filling fills) (made-meaningful tag l d block filling fills) r
+made-is-accepted w lun tag l d block filling room free has fills r =
+    free-accepts w (packet lun tag l d block filling) room free (made-valid lun tag l d block filling fills)
+    (made-meaningful lun tag l d block filling fills (w .bridge .dock .drives) has) r
 
 -- the zeros behind eight contents
 zeros-behind : (contents : List ℕ) (k : ℕ) → length contents ≡ 8 → byte (8 + k) (contents ++ 0 ∷ 0 ∷ 0 ∷ []) ≡ byte k (0 ∷ 0 ∷ 0 ∷ [])
@@ -170,8 +181,8 @@ module _ (signature count l : ℕ) (d : Direction) (acts registers : ℕ → Boo
       go true e = let a = askable e in rw (a .0, a .1, a .2, a .3)
       go false e = refl
 
-  block-recognises : (tag : ℕ) → recognises signature (packet tag l d block []) ≡ true
-  block-recognises tag = rw (direction-made tag l d block [], joins l, append-nil) block-recognised
+  block-recognises : (lun : Lun) (tag : ℕ) → recognises signature (packet lun tag l d block []) ≡ true
+  block-recognises lun tag = rw (direction-made lun tag l d block [], joins l, append-nil) block-recognised
 
 -- an accepted packet changes the bridge as its block says
 pub packet-leaves : (w : World) (p : List ℕ) (room : ℕ) → step w (Packet p room) .answer ≡ 0
@@ -180,14 +191,15 @@ unfolding step change
 packet-leaves w p room a = rw a
 
 pub made-is-begun : MadeIsBegun rules
-made-is-begun w tag l d acts registers count contents room free askable eights r =
+made-is-begun w lun tag l d acts registers count contents room free has askable eights r =
     let signature : ℕ = byte 0x04 (w .bytes) in
     let b : List ℕ = passThrough signature acts registers count contents in
     let fills : Fills b [] = block-fills signature count l d acts registers contents eights askable in
     rw (
-      packet-leaves w (packet tag l d b []) room (made-is-accepted w tag l d b [] room free fills r),
-      block-recognises signature count l d acts registers contents eights askable tag,
-      direction-made tag l d b [],
+      packet-leaves w (packet lun tag l d b []) room (made-is-accepted w lun tag l d b [] room free has fills r),
+      block-recognises signature count l d acts registers contents eights askable lun tag,
+      direction-made lun tag l d b [],
+      drive-made lun,
       joins tag,
       joins l,
     )

@@ -224,7 +224,7 @@ room-suffices w setup host p room sixteen = (
 
     waiting : (p : Phase) → isStatusWaiting p ≡ true → statusLayout .length ≤ room → length (statusReply p) ≤ room
     waiting Awaiting h r = absurd (false≢true h)
-    waiting (Busy direction tag l) h r = absurd (false≢true h)
+    waiting (Busy direction lun tag l) h r = absurd (false≢true h)
     waiting (StatusWaiting tag residue status) h r = r
     waiting (Stopped reset) h r = absurd (false≢true h)
 
@@ -282,7 +282,7 @@ met w c r a =
   where
     awaiting : (p : Phase) → isAwaiting p ≡ true → p ≡ Awaiting
     awaiting Awaiting h = refl
-    awaiting (Busy direction tag l) h = absurd (false≢true h)
+    awaiting (Busy direction lun tag l) h = absurd (false≢true h)
     awaiting (StatusWaiting tag residue status) h = absurd (false≢true h)
     awaiting (Stopped reset) h = absurd (false≢true h)
 

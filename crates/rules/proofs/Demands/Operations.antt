@@ -3,19 +3,23 @@ use mathlib.Core.Path.{_≡_, refl, sym, ap, _∙_}
 use mathlib.Core.Bool.{Bool, true, false, cond, not}
 use mathlib.Core.List.{List, [], _∷_, _++_, append-assoc, append-nil}
 use Prim.Native.Nat.{ℕ, zero, suc, _+_, _-_, _*_, _/_, _^_, _<_, _≤_}
-use native.Mathlib.Nat.{div-div-eq-div-mul, pow-suc}
+use native.Mathlib.Nat.{add-zero, div-div-eq-div-mul, pow-suc}
 use native.Mathlib.Omega.{arith}
 use lib.ListN.{length, length-append}
 use lib.Dec.{eqb, ltb}
 use borrow.Author.Tests.{ltb-true, eqb-true, eqb-false, lt-ltb}
 use Rattle.rules.specs.declared.Direction.{Direction}
 use Rattle.rules.specs.declared.Direction.the-variants.{In, Out}
+use Rattle.rules.specs.declared.Lun.{Lun}
+use Rattle.rules.specs.declared.Lun.the-variants.{Lun0, Lun1}
 use Rattle.rules.specs.Words.{byte, bit, bitOf, one}
+use Rattle.rules.specs.Held.{lunNumber}
 use Rattle.rules.specs.Operations.{Operation, Poll, Select, Write, Read, Transfer}
 use Rattle.rules.specs.Operations.{action, selected, content, only, withBit4, selectByte, transferByte, operationsOf}
 use Rattle.rules.specs.Step.{change, step, rules}
-use Rattle.rules.specs.Demands.Operations.{ExactOperations, Differ, Sets, PollBit, SelectLast, selectsIn, SelectBits, SelectBit, Weighs}
+use Rattle.rules.specs.Demands.Operations.{ExactOperations, Differ, Sets, PollBit, SelectLast, selectsIn, SelectBits, device, SelectBit, LunBit, Weighs}
 use Rattle.rules.specs.Demands.Operations.{TransferBits, TransferWay, TransferNeedsLength, tally, Counted, Listed}
+use Rattle.rules.proofs.Luns.{lun-most}
 
 pub exact-operations : ExactOperations rules
 unfolding step change
@@ -51,9 +55,10 @@ bits block j = bitOf j (action block)
 abbrev rest : List ℕ → ℕ → ℕ
 rest block j = byte (3 + j) block
 
-made-of : (block : List ℕ) (l : ℕ) (d : Direction) → operationsOf block l d ≡ made (bits block) (rest block) l (selectByte block) (transferByte (action block) d)
+made-of : (lun : Lun) (block : List ℕ) (l : ℕ) (d : Direction)
+    → operationsOf lun block l d ≡ made (bits block) (rest block) l (selectByte lun block) (transferByte (action block) d)
 unfolding operationsOf arranged
-made-of block l d = refl
+made-of lun block l d = refl
 
 -- ---- the select of every block
 
@@ -84,9 +89,9 @@ select-alone true z p w v r m s hp hw hv hr hm = simp (selects-append, hp, hr)
 select-alone false true p w v r m s hp hw hv hr hm = simp (selects-append, hp, hw, hv, hm)
 select-alone false false p w v r m s hp hw hv hr hm = simp (selects-append, hp, hw, hv, hm)
 
-select-once : (block : List ℕ) (l : ℕ) (d : Direction) → selectsIn (operationsOf block l d) ≡ selectByte block ∷ []
-select-once block l d =
-    rw (made-of block l d)
+select-once : (lun : Lun) (block : List ℕ) (l : ℕ) (d : Direction) → selectsIn (operationsOf lun block l d) ≡ selectByte lun block ∷ []
+select-once lun block l d =
+    rw (made-of lun block l d)
     (select-alone _ _ _ _ _ _ _ _
     (none-only (not (bit 2 (action block))) Poll refl)
     (none-picks (byte 3 block) (λ r. Write r (content block r)) (λ r. refl) (0 ∷ 1 ∷ 2 ∷ 3 ∷ 4 ∷ 5 ∷ []))
@@ -110,19 +115,20 @@ bit-stands n b (suc (suc (suc (suc zero)))) h other = absurd (other refl)
 bit-stands n b (suc (suc (suc (suc (suc k))))) h other =
     let high : withBit4 n b / 32 ≡ b / 32 = omega arith in bit-above (withBit4 n b) k ∙ ap (λ (q : ℕ). bitOf k q) high ∙ sym (bit-above b k)
 
+-- what bit 4 of a select becomes
+pub own-most : (t : Bool) (n : ℕ) (lun : Lun) → cond t (bitOf 4 n) (lunNumber lun) ≤ 1
+own-most true n lun = omega arith
+own-most false n lun = lun-most lun
+
 pub select-bits : SelectBits operationsOf
-select-bits block l d =
-    let own : cond (bit 5 (action block)) (bitOf 4 (byte 11 block)) 0 ≤ 1 = cond-bit (bit 5 (action block)) (byte 11 block) in (
-      selectByte block,
-      select-once block l d,
+select-bits lun block l d =
+    let own : cond (bit 5 (action block)) (bitOf 4 (byte 11 block)) (lunNumber lun) ≤ 1 = own-most (bit 5 (action block)) (byte 11 block) lun in (
+      selectByte lun block,
+      select-once lun block l d,
       (λ none. rw none (omega (arith, own), omega (arith, own), omega (arith, own))),
       (λ chosen. rw chosen (λ k. bit-stands _ (byte 11 block) k own)),
       omega (arith, own),
     )
-  where
-    cond-bit : (t : Bool) (n : ℕ) → cond t (bitOf 4 n) 0 ≤ 1
-    cond-bit true n = omega arith
-    cond-bit false n = omega arith
 
 -- ---- a block's list where an action bit is set
 
@@ -139,15 +145,15 @@ put-bits {k} {block} {block'} h j = go (ltb j 8) (eqb j k) refl refl
     go false u e f = refl
 
 -- with bit k set, a block's list is made of the same other bits and bytes
-made-set : {k : ℕ} {block block' : List ℕ} (l : ℕ) (d : Direction) → Sets k block block'
-    → operationsOf block' l d ≡ made (put k (bits block)) (rest block) l (selectByte block') (transferByte (action block') d)
+made-set : {k : ℕ} {block block' : List ℕ} (lun : Lun) (l : ℕ) (d : Direction) → Sets k block block'
+    → operationsOf lun block' l d ≡ made (put k (bits block)) (rest block) l (selectByte lun block') (transferByte (action block') d)
 unfolding operationsOf arranged
-made-set {block' = block'} l d h i =
-    made (λ j. put-bits h j i) (λ j. h .elsewhere (3 + j) (λ e. omega arith) i) l (selectByte block') (transferByte (action block') d)
+made-set {block' = block'} lun l d h i =
+    made (λ j. put-bits h j i) (λ j. h .elsewhere (3 + j) (λ e. omega arith) i) l (selectByte lun block') (transferByte (action block') d)
 
 -- only bit 5 changes the select's operand, and only bits 3, 4, 6 and 7 the transfer's
-select-kept : {k : ℕ} {block block' : List ℕ} → Sets k block block' → (5 ≡ k → ⊥) → selectByte block' ≡ selectByte block
-select-kept h n = rw (h .others 5 (omega arith) n, h .elsewhere 3 (λ e. omega arith), h .elsewhere 11 (λ e. omega arith))
+select-kept : {k : ℕ} {block block' : List ℕ} (lun : Lun) → Sets k block block' → (5 ≡ k → ⊥) → selectByte lun block' ≡ selectByte lun block
+select-kept lun h n = rw (h .others 5 (omega arith) n, h .elsewhere 3 (λ e. omega arith), h .elsewhere 11 (λ e. omega arith))
 
 transfer-kept : {k : ℕ} {block block' : List ℕ} (d : Direction) → Sets k block block' → (3 ≡ k → ⊥) → (4 ≡ k → ⊥) → (6 ≡ k → ⊥) → (7 ≡ k → ⊥)
     → transferByte (action block') d ≡ transferByte (action block) d
@@ -193,60 +199,73 @@ read-alike z z' p w v r m m' s = refl
 other : (m n : ℕ) → eqb m n ≡ false → m ≡ n → ⊥
 other m n h = eqb-false m n h
 
-pub poll-bit : PollBit operationsOf
-poll-bit block block' l d h =
-    rw (made-of block l d, made-set l d h, select-kept h (other 5 2 refl), transfer-kept d h (other 3 2 refl) (other 4 2 refl) (other 6 2 refl) (other 7 2 refl), h .clear)
+pub poll-bit : (lun : Lun) → PollBit (operationsOf lun)
+poll-bit lun block block' l d h =
+    rw (made-of lun block l d, made-set lun l d h, select-kept lun h (other 5 2 refl), transfer-kept d h (other 3 2 refl) (other 4 2 refl) (other 6 2 refl) (other 7 2 refl), h .clear)
     (poll-first _ _ _ _ _ _ _)
 
-pub select-last : SelectLast operationsOf
-select-last block block' l d h =
-    rw (made-of block l d, made-set l d h, select-kept h (other 5 1 refl), transfer-kept d h (other 3 1 refl) (other 4 1 refl) (other 6 1 refl) (other 7 1 refl), h .clear)
-    ((λ reading. rw reading (read-alike _ _ _ _ _ _ _ _ _)), (λ writing. (selectByte block, rw writing (select-moves _ _ _ _ _ _))))
+pub select-last : (lun : Lun) → SelectLast (operationsOf lun)
+select-last lun block block' l d h =
+    rw (made-of lun block l d, made-set lun l d h, select-kept lun h (other 5 1 refl), transfer-kept d h (other 3 1 refl) (other 4 1 refl) (other 6 1 refl) (other 7 1 refl), h .clear)
+    ((λ reading. rw reading (read-alike _ _ _ _ _ _ _ _ _)), (λ writing. (selectByte lun block, rw writing (select-moves _ _ _ _ _ _))))
 
 -- the select's operand with bit 5 clear, and with it set
-select-clear : {block block' : List ℕ} → Sets 5 block block' → selectByte block ≡ cond (selected block 6) (byte 11 block - 16 * bitOf 4 (byte 11 block)) 0xA0
-select-clear {block} h = rw (h .clear) (go (selected block 6))
+with-bit : (block : List ℕ) (n : ℕ) → withBit4 n (cond (selected block 6) (byte 11 block) 0xA0) ≡ device block + 16 * n
+with-bit block n = go (selected block 6)
   where
-    go : (t : Bool) → withBit4 0 (cond t (byte 11 block) 0xA0) ≡ cond t (byte 11 block - 16 * bitOf 4 (byte 11 block)) 0xA0
-    go true = omega arith
+    go : (t : Bool) → withBit4 n (cond t (byte 11 block) 0xA0) ≡ cond t (byte 11 block - 16 * bitOf 4 (byte 11 block)) 0xA0 + 16 * n
+    go true = refl
     go false = refl
 
-select-set : {block block' : List ℕ} → Sets 5 block block' → selectByte block' ≡ selectByte block + 16 * bitOf 4 (byte 11 block)
-select-set h = rw (h .set, h .clear, h .elsewhere 3 (λ e. omega arith), h .elsewhere 11 (λ e. omega arith)) (omega arith)
+select-clear : (lun : Lun) (block : List ℕ) → bitOf 5 (action block) ≡ 0 → selectByte lun block ≡ device block + 16 * lunNumber lun
+select-clear lun block clear = rw clear (with-bit block (lunNumber lun))
+
+select-set : (lun : Lun) (block : List ℕ) → bitOf 5 (action block) ≡ 1 → selectByte lun block ≡ device block + 16 * bitOf 4 (byte 11 block)
+select-set lun block set = rw set (with-bit block (bitOf 4 (byte 11 block)))
 
 pub select-bit : SelectBit operationsOf
-select-bit block block' l d h =
-    rw (made-of block l d, made-set l d h, transfer-kept d h (other 3 5 refl) (other 4 5 refl) (other 6 5 refl) (other 7 5 refl), select-set h)
-    (selectByte block, select-clear h, select-changes _ _ _ _ _ _ _ _ _)
+select-bit lun block block' l d h =
+    let now : selectByte lun block' ≡ device block + 16 * bitOf 4 (byte 11 block) =
+    select-set lun block' (h .set) ∙ rw (h .elsewhere 3 (λ e. omega arith), h .elsewhere 11 (λ e. omega arith)) in
+    rw (made-of lun block l d, made-set lun l d h, transfer-kept d h (other 3 5 refl) (other 4 5 refl) (other 6 5 refl) (other 7 5 refl))
+    (rw (select-clear lun block (h .clear), now) (select-changes _ _ _ _ _ _ _ _ _))
+
+pub lun-bit : LunBit operationsOf
+lun-bit block l d = (
+  λ set. rw (made-of Lun0 block l d, made-of Lun1 block l d, select-set Lun0 block set, select-set Lun1 block set),
+  λ clear.
+      rw (made-of Lun0 block l d, made-of Lun1 block l d, select-clear Lun0 block clear ∙ add-zero _, select-clear Lun1 block clear)
+      (select-changes _ _ _ _ _ _ _ _ _),
+)
 
 -- ---- the transfer
 
 -- a bit on which only the transfer's operand depends, by n
-weighs : (k n : ℕ) → ((a : ℕ → ℕ) → made (put k a) ≡ made a) → (5 ≡ k → ⊥)
+weighs : (lun : Lun) (k n : ℕ) → ((a : ℕ → ℕ) → made (put k a) ≡ made a) → (5 ≡ k → ⊥)
     → ((block block' : List ℕ) (d : Direction) → Sets k block block' → transferByte (action block') d ≡ transferByte (action block) d + n)
-    → Weighs operationsOf k n
-weighs k n same five more block block' l d h =
-    rw (made-of block l d, made-set l d h ∙ (λ i. same (bits block) i (rest block) l (select-kept h five i) (more block block' d h i)))
+    → Weighs (operationsOf lun) k n
+weighs lun k n same five more block block' l d h =
+    rw (made-of lun block l d, made-set lun l d h ∙ (λ i. same (bits block) i (rest block) l (select-kept lun h five i) (more block block' d h i)))
     ((λ reading. rw reading (read-alike _ _ _ _ _ _ _ _ _)), (λ writing. (transferByte (action block) d, rw writing (transfer-changes _ _ _ _ _ _ _ _))))
 
-pub transfer-bits : TransferBits operationsOf
-transfer-bits = (
-  weighs 6 2 (λ a. refl) (other 5 6 refl) (λ b b' d h. rw (put-bits h 3, put-bits h 4, put-bits h 6, put-bits h 7, h .clear) (omega arith)),
-  weighs 4 4 (λ a. refl) (other 5 4 refl) (λ b b' d h. rw (put-bits h 3, put-bits h 4, put-bits h 6, put-bits h 7, h .clear) (omega arith)),
-  weighs 3 8 (λ a. refl) (other 5 3 refl) (λ b b' d h. rw (put-bits h 3, put-bits h 4, put-bits h 6, put-bits h 7, h .clear) (omega arith)),
-  weighs 7 16 (λ a. refl) (other 5 7 refl) (λ b b' d h. rw (put-bits h 3, put-bits h 4, put-bits h 6, put-bits h 7, h .clear) (omega arith)),
+pub transfer-bits : (lun : Lun) → TransferBits (operationsOf lun)
+transfer-bits lun = (
+  weighs lun 6 2 (λ a. refl) (other 5 6 refl) (λ b b' d h. rw (put-bits h 3, put-bits h 4, put-bits h 6, put-bits h 7, h .clear) (omega arith)),
+  weighs lun 4 4 (λ a. refl) (other 5 4 refl) (λ b b' d h. rw (put-bits h 3, put-bits h 4, put-bits h 6, put-bits h 7, h .clear) (omega arith)),
+  weighs lun 3 8 (λ a. refl) (other 5 3 refl) (λ b b' d h. rw (put-bits h 3, put-bits h 4, put-bits h 6, put-bits h 7, h .clear) (omega arith)),
+  weighs lun 7 16 (λ a. refl) (other 5 7 refl) (λ b b' d h. rw (put-bits h 3, put-bits h 4, put-bits h 6, put-bits h 7, h .clear) (omega arith)),
 )
 
-pub transfer-way : TransferWay operationsOf
-transfer-way block l writing positive =
+pub transfer-way : (lun : Lun) → TransferWay (operationsOf lun)
+transfer-way lun block l writing positive =
     let t : ℕ = 2 * bits block 6 + 4 * bits block 4 + 8 * bits block 3 + 16 * bits block 7 in
     let outward : transferByte (action block) Out ≡ t = omega arith in
     let inwards : transferByte (action block) In ≡ t + 1 = omega arith in
-    rw (made-of block l Out, made-of block l In, outward, inwards, writing, lt-ltb 0 l positive) (t, refl, transfer-changes _ _ _ _ _ _ _ _)
+    rw (made-of lun block l Out, made-of lun block l In, outward, inwards, writing, lt-ltb 0 l positive) (t, refl, transfer-changes _ _ _ _ _ _ _ _)
 
-pub transfer-needs-length : TransferNeedsLength operationsOf
-transfer-needs-length block l d writing positive =
-    rw (made-of block 0 d, made-of block l d, writing, lt-ltb 0 l positive) (transferByte (action block) d, transfer-changes _ _ _ _ _ _ _ _)
+pub transfer-needs-length : (lun : Lun) → TransferNeedsLength (operationsOf lun)
+transfer-needs-length lun block l d writing positive =
+    rw (made-of lun block 0 d, made-of lun block l d, writing, lt-ltb 0 l positive) (transferByte (action block) d, transfer-changes _ _ _ _ _ _ _ _)
 
 -- ---- how many operations
 
@@ -281,21 +300,21 @@ unfolding arranged
 length-written true p w v r m s = simp length-append (omega arith)
 length-written false p w v r m s = simp length-append (omega arith)
 
-pub counted : Counted operationsOf
-counted block l d =
+pub counted : (lun : Lun) → Counted (operationsOf lun)
+counted lun block l d =
     let polls : Bool = not (bit 2 (action block)) in
     let write : ℕ → Operation = λ r. Write r (content block r) in
     let low : List ℕ = 0 ∷ 1 ∷ 2 ∷ 3 ∷ 4 ∷ 5 ∷ [] in
-    rw (made-of block l d) (
+    rw (made-of lun block l d) (
       (λ reading. rw (reading, length-read, length-only polls, length-picks block Read (low ++ 6 ∷ 7 ∷ [])) (refl, omega (arith, one-most polls))),
       (λ writing. rw (writing, length-written, length-only polls, length-only (ltb 0 l), length-picks block write low, length-picks block write (7 ∷ []))
           (omega arith, omega (arith, one-most polls, one-most (ltb 0 l)))),
     )
 
-pub listed : Listed operationsOf
+pub listed : (lun : Lun) → Listed (operationsOf lun)
 unfolding operationsOf
-listed block l d = (
-  selectByte block,
+listed lun block l d = (
+  selectByte lun block,
   transferByte (action block) d,
   (λ reading. rw reading (simp (append-assoc, append-nil))),
   (λ writing usual. rw (writing, usual) (simp (append-assoc, append-nil))),

@@ -8,13 +8,16 @@ use native.Mathlib.Omega.{arith}
 use lib.ListN.{length, take, drop, length-drop, take-append-drop, drop-of-length-le}
 use lib.Seq.{getD-drop, drop-drop, take-all, length-take-le}
 use lib.Dec.{eqb, leb, ltb}
-use borrow.Author.Tests.{eqb-true, eqb-false, leb-true, not-true, not-false}
+use borrow.Author.Tests.{eqb-true, eqb-false, leb-true, ltb-true, not-true, not-false}
 use Rattle.rules.specs.declared.Direction.{Direction}
 use Rattle.rules.specs.declared.Direction.the-variants.{Out, In}
+use Rattle.rules.specs.declared.Drives.{Drives}
+use Rattle.rules.specs.declared.Drives.the-variants.{One, Two}
+use Rattle.rules.specs.declared.Lun.the-variants.{Lun0, Lun1}
 use Rattle.rules.specs.Words.{byte, long, bit, bitOf, one, Check, first}
-use Rattle.rules.specs.Held.{World}
+use Rattle.rules.specs.Held.{World, driveCount, lunNumber}
 use Rattle.rules.specs.Changes.{made}
-use Rattle.rules.specs.Packets.{inward, readable, commandOf, blockOf, directionOf, signatureOf, valid, meaningful, recognised, recognises}
+use Rattle.rules.specs.Packets.{inward, readable, commandOf, blockOf, directionOf, driveOf, lunOf, signatureOf, valid, sensible, meaningful, recognised, recognises}
 use Rattle.rules.specs.Operations.{codes, operationsOf}
 use Rattle.rules.specs.Answers.{packetChecks, packetAnswer}
 use Rattle.rules.specs.Step.{Packet, operationsFor, answer, done, step, rules}
@@ -69,26 +72,44 @@ damage-is-told w p room h = (
     checks = packetChecks (w .bridge) p (length (operationsFor (signatureOf (w .bytes)) p)) room
 
 -- what an accepted packet has passed
-packet-passed : (w : World) (p : List ℕ) (room : ℕ) → step w (Packet p room) .answer ≡ 0 → (valid p ≡ true) × (meaningful (commandOf p) ≡ true)
+packet-passed : (w : World) (p : List ℕ) (room : ℕ) → step w (Packet p room) .answer ≡ 0
+    → (valid p ≡ true) × (meaningful (w .bridge .dock .drives) (commandOf p) ≡ true)
 unfolding step packetAnswer
 packet-passed w p room a =
     let k = passed (packetChecks (w .bridge) p (length (operationsFor (signatureOf (w .bytes)) p)) room) refl a in
-    (not-false (valid p) (k .1 .1 .1 .0), not-false (meaningful (commandOf p)) (k .1 .1 .1 .1 .0))
+    (not-false (valid p) (k .1 .1 .1 .0), not-false (meaningful (w .bridge .dock .drives) (commandOf p)) (k .1 .1 .1 .1 .0))
 
 -- the direction that the flags of a packet say
 abbrev said : List ℕ → Direction
 said p = cond (eqb (byte 12 p) 0x80) In Out
 
-meaning : (p : List ℕ) → meaningful (commandOf p) ≡ true → (byte 12 p ≡ flagsFor (said p)) × (byte 13 p ≡ 0) × (1 ≤ byte 14 p) × (byte 14 p ≤ 16)
-unfolding meaningful
-meaning p m =
-    let a = and-eq-true-iff _ (leb (byte 14 p) 16) .0 m in
-    let b = and-eq-true-iff _ (leb 1 (byte 14 p)) .0 (a .0) in
-    let c = and-eq-true-iff (eqb (byte 12 p) 0x00 || eqb (byte 12 p) 0x80) (eqb (byte 13 p) 0) .0 (b .0) in (
-      flags (eqb (byte 12 p) 0x80) refl (eqb (byte 12 p) 0x00) refl (c .0),
-      eqb-true (byte 13 p) 0 (c .1),
+-- a LUN below the count is that of its drive
+lun-read : (drives : Drives) (lun : ℕ) → lun < driveCount drives → lun ≡ lunNumber (driveOf lun)
+lun-read drives lun h = go (eqb lun 0) refl
+  where
+    most : (drives : Drives) → lun < driveCount drives → lun ≤ 1
+    most One h = omega arith
+    most Two h = omega arith
+
+    go : (t : Bool) → eqb lun 0 ≡ t → lun ≡ lunNumber (cond t Lun0 Lun1)
+    go true e = eqb-true lun 0 e
+    go false e = omega (arith, eqb-false lun 0 e, most drives h)
+
+meaning : (drives : Drives) (p : List ℕ) → meaningful drives (commandOf p) ≡ true
+    → (byte 12 p ≡ flagsFor (said p)) × (byte 13 p ≡ lunNumber (driveOf (byte 13 p))) × (1 ≤ byte 14 p) × (byte 14 p ≤ 16)
+    × (lunNumber (driveOf (byte 13 p)) < driveCount drives)
+unfolding meaningful sensible
+meaning drives p m =
+    let c = and-eq-true-iff _ (ltb (byte 13 p) (driveCount drives)) .0 m in
+    let a = and-eq-true-iff _ (leb (byte 14 p) 16) .0 (c .0) in
+    let b = and-eq-true-iff (eqb (byte 12 p) 0x00 || eqb (byte 12 p) 0x80) (leb 1 (byte 14 p)) .0 (a .0) in
+    let below : byte 13 p < driveCount drives = ltb-true (byte 13 p) (driveCount drives) (c .1) in
+    let lun = lun-read drives (byte 13 p) below in (
+      flags (eqb (byte 12 p) 0x80) refl (eqb (byte 12 p) 0x00) refl (b .0),
+      lun,
       leb-true 1 (byte 14 p) (b .1),
       leb-true (byte 14 p) 16 (a .1),
+      rw (← lun) below,
     )
   where
     flags : (t : Bool) → eqb (byte 12 p) 0x80 ≡ t → (u : Bool) → eqb (byte 12 p) 0x00 ≡ u → (u || t) ≡ true → byte 12 p ≡ flagsFor (cond t In Out)
@@ -96,27 +117,37 @@ meaning p m =
     flags false e true f h = eqb-true (byte 12 p) 0x00 f
     flags false e false f h = absurd (false≢true h)
 
+-- an accepted packet is for a drive that the dock holds
+pub drive-held : (w : World) (p : List ℕ) (room : ℕ) → answer w (Packet p room) ≡ 0
+    → (byte 13 p ≡ lunNumber (lunOf (commandOf p))) × (lunNumber (lunOf (commandOf p)) < driveCount (w .bridge .dock .drives))
+unfolding step
+drive-held w p room a = let m = meaning (w .bridge .dock .drives) p (packet-passed w p room a .1) in (m .1, m .4)
+
 -- .. so it was made of its block and what is behind it
 packet-made : (w : World) (p : List ℕ) (room : ℕ) → Bytes p → step w (Packet p room) .answer ≡ 0
     → (let block = take (byte 14 p) (blockOf p) in
     let filling = drop (byte 14 p) (blockOf p) in
-    (length block ≡ byte 14 p) × Fills block filling × (p ≡ packet (long 4 p) (long 8 p) (said p) block filling))
+    (length block ≡ byte 14 p) × Fills block filling × (p ≡ packet (driveOf (byte 13 p)) (long 4 p) (long 8 p) (said p) block filling))
+    × (lunNumber (driveOf (byte 13 p)) < driveCount (w .bridge .dock .drives))
 packet-made w p room h a =
     let k = packet-passed w p room a in
     let v = valid-made p h (k .0) in
-    let m = meaning p (k .1) in
+    let m = meaning (w .bridge .dock .drives) p (k .1) in
     let n : length (blockOf p) ≡ 16 = rw (length-drop, v .0) in
     let most = m .3 in
     let size : length (take (byte 14 p) (blockOf p)) ≡ byte 14 p = length-take-le (byte 14 p) (blockOf p) (omega arith) in (
-      size,
-      record { some = rw size (m .2); sixteen = rw (size, length-drop, n) (omega arith) },
-      v .1 ∙ λ i. wrapper (long 4 p) (long 8 p) (m .0 i) (m .1 i) (sym size i) (sym (take-append-drop (byte 14 p) (blockOf p)) i),
+      (
+        size,
+        record { some = rw size (m .2); sixteen = rw (size, length-drop, n) (omega arith) },
+        v .1 ∙ λ i. wrapper (long 4 p) (long 8 p) (m .0 i) (m .1 i) (sym size i) (sym (take-append-drop (byte 14 p) (blockOf p)) i),
+      ),
+      m .4,
     )
 
 pub accepted-was-made : AcceptedWasMade rules
 accepted-was-made w p room h a =
     let made = packet-made w p room h a in
-    (long 4 p, long 8 p, said p, take (byte 14 p) (blockOf p), drop (byte 14 p) (blockOf p), made .1, made .2)
+    (driveOf (byte 13 p), long 4 p, long 8 p, said p, take (byte 14 p) (blockOf p), drop (byte 14 p) (blockOf p), made .1, made .0 .1, made .0 .2)
 
 -- a byte is made of its bits
 bit-read : (k b : ℕ) → one (bit k b) ≡ bitOf k b
@@ -187,7 +218,7 @@ unfolding step
 begun w p room h = go (done (answer w (Packet p room))) refl (recognises (signatureOf (w .bytes)) p) refl h
   where
     go : (t : Bool) → done (answer w (Packet p room)) ≡ t → (u : Bool) → recognises (signatureOf (w .bytes)) p ≡ u
-        → (_≡_ {A = List ℕ} (cond t (cond u (codes (operationsOf (blockOf p) (commandOf p .length) (directionOf (commandOf p)))) []) []) [] → ⊥)
+        → (_≡_ {A = List ℕ} (cond t (cond u (codes (operationsOf (lunOf (commandOf p)) (blockOf p) (commandOf p .length) (directionOf (commandOf p)))) []) []) [] → ⊥)
         → (answer w (Packet p room) ≡ 0) × (u ≡ true)
     go true e true f h = (eqb-true _ 0 e, refl)
     go true e false f h = absurd (h refl)
@@ -217,6 +248,7 @@ begun-was-made w p room h o =
     let read = block-made block (signatureOf (w .bytes)) (λ j. rw getD-drop (h (15 + j))) n (has .1) (has .2) (has .3) (has .4) (has .5) in
     let all : take (byte 14 p) block ≡ block = rw (has .0) (take-all 16 block (omega arith)) in
     let second : drop (byte 14 p) block ≡ [] = rw (has .0) (drop-of-length-le block {i = 16} (omega arith)) in (
+      driveOf (byte 13 p),
       long 4 p,
       long 8 p,
       said p,
@@ -224,7 +256,8 @@ begun-was-made w p room h o =
       λ j. bit j (byte 3 block),
       byte 4 block,
       take 8 (drop 5 block),
+      made .1,
       λ t. asked p (byte 2 block) (has .6 t),
       length-take-le 8 (drop 5 block) (rw (length-drop, n) (omega arith)),
-      made .2 ∙ λ i. packet (long 4 p) (long 8 p) (said p) ((all ∙ read) i) (second i),
+      made .0 .2 ∙ λ i. packet (driveOf (byte 13 p)) (long 4 p) (long 8 p) (said p) ((all ∙ read) i) (second i),
     )

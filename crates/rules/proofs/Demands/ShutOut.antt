@@ -7,11 +7,12 @@ use native.Mathlib.Omega.{arith}
 use lib.Dec.{eqb}
 use lib.ListN.{length}
 use Rattle.rules.specs.declared.Dock.{Dock}
+use Rattle.rules.specs.declared.Drives.the-variants.{One}
 use Rattle.rules.specs.declared.PageSize.the-variants.{Of256}
 use Rattle.rules.specs.Words.{over}
 use Rattle.rules.specs.Held.{World, Start, docked, byDefault, isAwaiting}
 use Rattle.rules.specs.Requests.{requestOf, address, onePage}
-use Rattle.rules.specs.Packets.{valid, meaningful, recognised}
+use Rattle.rules.specs.Packets.{valid, sensible, meaningful, recognised}
 use Rattle.rules.specs.Operations.{operationsOf}
 use Rattle.rules.specs.Reports.{malformed, mismatch}
 use Rattle.rules.specs.Answers.{requestAnswer, packetAnswer, reportAnswer, statusAnswer}
@@ -23,7 +24,7 @@ use Rattle.rules.specs.Demands.ShutOut.{performsFirst, ShutOut}
 
 -- any dock will do
 abbrev dock : Dock
-dock = docked false Of256
+dock = docked false Of256 One
 
 abbrev start : Start
 start = byDefault dock
@@ -47,7 +48,7 @@ differ : {A : Type 0} (test : A → Bool) {x y : A} → x ≡ y → test x ≡ t
 differ test e p q = true≢false (sym p ∙ ap test e ∙ q)
 
 pub shut-out : ShutOut
-unfolding over step change requestOf address onePage requestAnswer packetAnswer reportAnswer statusAnswer valid meaningful recognised operationsOf malformed mismatch
+unfolding over step change requestOf address onePage requestAnswer packetAnswer reportAnswer statusAnswer valid sensible meaningful recognised operationsOf malformed mismatch
 shut-out = (
   λ h. false≢true (h dock),
   λ h. differ (eqb 0) (h configured (wire 0xC0 0x02 0 4 1) [] 1 refl refl refl refl .1 0 (omega arith)) refl refl,

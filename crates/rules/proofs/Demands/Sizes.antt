@@ -40,7 +40,7 @@ residue-sized false l amount h = omega (arith, h)
 
 report : (direction failed amount : ℕ) (p : Phase) → Numbers p → Sized (reportTaken direction failed amount p)
 report direction failed amount Awaiting n = tt
-report direction failed amount (Busy host tag l) n = (n .0, residue-sized (mismatch l host direction amount) l amount (n .1))
+report direction failed amount (Busy host lun tag l) n = (n .0, residue-sized (mismatch l host direction amount) l amount (n .1))
 report direction failed amount (StatusWaiting tag residue status) n = tt
 report direction failed amount (Stopped reset) n = tt
 
@@ -83,7 +83,7 @@ leaves (Sets c) b z n = tt
 leaves Awaits b z n = tt
 leaves Resets b z n = tt
 leaves Drops b z n = n
-leaves (Begins direction tag l) b z n = z
+leaves (Begins direction lun tag l) b z n = z
 leaves (Finishes Out halts status tag residue) b z n = z
 leaves (Finishes In halts status tag residue) b z n = z
 leaves Stops b z n = tt

@@ -11,6 +11,7 @@ use borrow.Author.Tests.{ltb-true, ne-eqb, lt-ltb, le-ltb}
 use Rattle.rules.specs.declared.Bridge.{Bridge}
 use Rattle.rules.specs.declared.Direction.{Direction}
 use Rattle.rules.specs.declared.Direction.the-variants.{Out, In}
+use Rattle.rules.specs.declared.Lun.{Lun}
 use Rattle.rules.specs.declared.Phase.{Phase}
 use Rattle.rules.specs.declared.Phase.the-variants.{Busy, StatusWaiting}
 use Rattle.rules.specs.Words.{byte}
@@ -20,7 +21,7 @@ use Rattle.rules.specs.Reports.{haltsPipe, directionNumber, hostNumber, 
 use Rattle.rules.specs.Answers.{statusAnswer}
 use Rattle.rules.specs.Step.{Packet, Report, StatusRequest, step, rules}
 use Rattle.rules.specs.Demands.Requests.{ordering}
-use Rattle.rules.specs.Demands.Makers.{flagsFor, packet, Fills, Free, takenApart, telling}
+use Rattle.rules.specs.Demands.Makers.{flagsFor, packet, Fills, Free, Has, takenApart, telling}
 use Rattle.rules.specs.Demands.Coherence.{reported, StatusIsTold, Other, OtherIsFailed, OtherHalts}
 use Rattle.rules.proofs.Demands.Cases.{legal, report-taken}
 use Rattle.rules.proofs.Demands.Makers.{joins, direction-made, packet-leaves, made-is-accepted, made-is-begun, status-read-back}
@@ -82,15 +83,15 @@ named Out = (omega arith, omega arith)
 named In = (omega arith, omega arith)
 
 pub status-is-told : StatusIsTold rules
-status-is-told w tag l d acts registers count contents failed amount free t n askable eights f a =
+status-is-told w lun tag l d acts registers count contents failed amount free has t n askable eights f a =
     let host : Direction = cond (ltb 0 l) d Out in
-    let b : Bridge = inPhase (Busy host tag l) (w .bridge) in
+    let b : Bridge = inPhase (Busy host lun tag l) (w .bridge) in
     let busy : World = world b (w .bytes) (w .memory) in
     let direction = named d in
     let m = legal (reported d) failed amount (direction .1) f (λ z. omega arith) in
-    let left = report-taken busy host tag l (reported d) failed amount (free .configured) refl m .1 in
+    let left = report-taken busy host lun tag l (reported d) failed amount (free .configured) refl m .1 in
     subst (λ (x : World). Tells tag (l - amount) failed (step (step x (Report (reported d) failed amount) .next) (ordering 0x02 0x01 0 0x82) .next))
-    (sym (made-is-begun w tag l d acts registers count contents 11 free askable eights (omega arith)))
+    (sym (made-is-begun w lun tag l d acts registers count contents 11 free has askable eights (omega arith)))
     (finished-told (step busy (Report (reported d) failed amount) .next) b (haltsPipe false l amount) host tag (l - amount) failed (free .configured)
     (rw (matches l d amount a) at left) t (omega arith))
 
@@ -112,25 +113,26 @@ unrecognised signature l d block filling fills o = go (recognised signature (blo
     go false e = refl
 
 -- it leaves its status waiting
-other-leaves : (w : World) (tag l : ℕ) (d : Direction) (block filling : List ℕ) → Free w → Fills block filling → Other (byte 0x04 (w .bytes)) block
-    → step w (Packet (packet tag l d block filling) 11) .next .bridge
+other-leaves : (w : World) (lun : Lun) (tag l : ℕ) (d : Direction) (block filling : List ℕ)
+    → Free w → Has w lun → Fills block filling → Other (byte 0x04 (w .bytes)) block
+    → step w (Packet (packet lun tag l d block filling) 11) .next .bridge
     ≡ halting (ltb 0 l) (cond (ltb 0 l) d Out) (inPhase (StatusWaiting tag l 1) (w .bridge))
-other-leaves w tag l d block filling free fills o =
-    let p : List ℕ = packet tag l d block filling in
+other-leaves w lun tag l d block filling free has fills o =
+    let p : List ℕ = packet lun tag l d block filling in
     let host : Direction = cond (ltb 0 l) d Out in
-    let left = packet-leaves w p 11 (made-is-accepted w tag l d block filling 11 free fills (omega arith)) in
+    let left = packet-leaves w p 11 (made-is-accepted w lun tag l d block filling 11 free has fills (omega arith)) in
     let other : recognises (byte 0x04 (w .bytes)) p ≡ false =
-    rw (direction-made tag l d block filling, joins l) (unrecognised (byte 0x04 (w .bytes)) l host block filling fills o) in
-    ap (λ (w : World). w .bridge) left ∙ rw (other, direction-made tag l d block filling, joins tag, joins l)
+    rw (direction-made lun tag l d block filling, joins l) (unrecognised (byte 0x04 (w .bytes)) l host block filling fills o) in
+    ap (λ (w : World). w .bridge) left ∙ rw (other, direction-made lun tag l d block filling, joins tag, joins l)
 
 pub other-is-failed : OtherIsFailed rules
-other-is-failed w tag l d block filling free t n fills o =
-    finished-told (step w (Packet (packet tag l d block filling) 11) .next) (w .bridge) (ltb 0 l) (cond (ltb 0 l) d Out) tag l 1 (free .configured)
-    (other-leaves w tag l d block filling free fills o) t n
+other-is-failed w lun tag l d block filling free has t n fills o =
+    finished-told (step w (Packet (packet lun tag l d block filling) 11) .next) (w .bridge) (ltb 0 l) (cond (ltb 0 l) d Out) tag l 1 (free .configured)
+    (other-leaves w lun tag l d block filling free has fills o) t n
 
 pub other-halts : OtherHalts rules
-other-halts w tag l d block filling free fills o =
-    rw (other-leaves w tag l d block filling free fills o) (go (ltb 0 l) d)
+other-halts w lun tag l d block filling free has fills o =
+    rw (other-leaves w lun tag l d block filling free has fills o) (go (ltb 0 l) d)
   where
     go : (t : Bool) (d : Direction)
         → (let b = halting t (cond t d Out) (inPhase (StatusWaiting tag l 1) (w .bridge)) in

@@ -12,7 +12,7 @@ use Rattle.rules.specs.declared.Phase.{Phase}
 use Rattle.rules.specs.declared.Phase.the-variants.{Awaiting, Busy, StatusWaiting, Stopped}
 use Rattle.rules.specs.Held.{World, isAwaiting, isBusy, isStatusWaiting}
 use Rattle.rules.specs.Changes.{made}
-use Rattle.rules.specs.Packets.{blockOf, commandOf, directionOf, signatureOf, recognises, commandTaken}
+use Rattle.rules.specs.Packets.{blockOf, commandOf, directionOf, lunOf, signatureOf, recognises, commandTaken}
 use Rattle.rules.specs.Operations.{Operation, codes, operationsOf}
 use Rattle.rules.specs.Reports.{reportTaken}
 use Rattle.rules.specs.Answers.{packetChecks, packetAnswer, reportChecks, reportAnswer, statusChecks, statusAnswer}
@@ -53,7 +53,7 @@ command-phase false c b = rw (finishes _ (directionOf c) b (StatusWaiting (c .ta
 report-phase : (direction failed amount : ℕ) (b : Bridge) (p : Phase) → isBusy p ≡ true
     → (let p = made (reportTaken direction failed amount p) b .phase in (isAwaiting p ≡ false) × (isBusy p ≡ false))
 report-phase direction failed amount b Awaiting h = absurd (false≢true h)
-report-phase direction failed amount b (Busy host tag l) h = rw (finishes _ host b _ .1) (refl, refl)
+report-phase direction failed amount b (Busy host lun tag l) h = rw (finishes _ host b _ .1) (refl, refl)
 report-phase direction failed amount b (StatusWaiting tag residue status) h = absurd (false≢true h)
 report-phase direction failed amount b (Stopped reset) h = absurd (false≢true h)
 
@@ -71,11 +71,11 @@ unfolding step
 unbegun w p room a o = go (recognises (signatureOf (w .bytes)) p) (rw a at o)
   where
     os : List Operation
-    os = operationsOf (blockOf p) (commandOf p .length) (directionOf (commandOf p))
+    os = operationsOf (lunOf (commandOf p)) (blockOf p) (commandOf p .length) (directionOf (commandOf p))
 
     go : (t : Bool) → cond t (codes os) [] ≡ [] → t ≡ false
     go true e =
-        let n = operations-count (blockOf p) (commandOf p .length) (directionOf (commandOf p)) .0 in
+        let n = operations-count (lunOf (commandOf p)) (blockOf p) (commandOf p .length) (directionOf (commandOf p)) .0 in
         let z = sym (codes-length os) ∙ ap length e in
         absurd (omega arith)
     go false e = refl

@@ -2,25 +2,27 @@
 use mathlib.Core.Path.{_≡_, refl, _∙_}
 use mathlib.Core.Bool.{Bool, true, false, cond, not, _&&_, _||_, true≢false, and-eq-true-iff}
 use mathlib.Core.List.{List, [], _∷_, _++_}
-use Prim.Native.Nat.{ℕ, zero, suc, _≤_}
+use Prim.Native.Nat.{ℕ, zero, suc, _<_, _≤_}
 use native.Mathlib.Omega.{arith}
 use lib.ListN.{length}
 use lib.Dec.{eqb, leb, ltb}
-use borrow.Author.Tests.{eqb-true, ltb-true, ltb-false, le-leb}
+use borrow.Author.Tests.{eqb-true, ltb-true, ltb-false, le-leb, lt-ltb}
 use Rattle.rules.specs.declared.Bridge.{Bridge}
 use Rattle.rules.specs.declared.Change.the-variants.{Nothing, Stops}
 use Rattle.rules.specs.declared.CommandPacket.{CommandPacket}
 use Rattle.rules.specs.declared.Direction.{Direction}
 use Rattle.rules.specs.declared.Direction.the-variants.{Out, In}
+use Rattle.rules.specs.declared.Drives.{Drives}
 use Rattle.rules.specs.declared.Halts.{Halts}
+use Rattle.rules.specs.declared.Lun.{Lun}
 use Rattle.rules.specs.declared.Phase.{Phase}
 use Rattle.rules.specs.declared.Phase.the-variants.{Awaiting, Busy, StatusWaiting, Stopped}
 use Rattle.rules.specs.declared.Request.the-variants.{SetConfiguration, GetConfiguration, ClearFeature, GetStatus, GetMaxLun, MassStorageReset, LoadConfigData, ReadConfigData, SoftReset, BogusRead}
 use Rattle.rules.specs.declared.Setup.{Setup}
 use Rattle.rules.specs.Words.{over}
-use Rattle.rules.specs.Held.{World, world, powered, powerOnBytes, bulkOut, inPhase, halted, halting}
+use Rattle.rules.specs.Held.{World, driveCount, lunNumber, world, powered, powerOnBytes, bulkOut, inPhase, halted, halting}
 use Rattle.rules.specs.Changes.{made, drops}
-use Rattle.rules.specs.Packets.{commandOf, directionOf, signatureOf, recognises, commandTaken}
+use Rattle.rules.specs.Packets.{commandOf, directionOf, lunOf, signatureOf, recognises, commandTaken}
 use Rattle.rules.specs.Reports.{malformed, mismatch, statusOf, residueOf, haltsPipe, reportTaken}
 use Rattle.rules.specs.Stopping.{clearsPipe, massStorageReset, softReset}
 use Rattle.rules.specs.Requests.{Named, Unknown, Known, Describes, setupOf, requestOf, inMemory, changeBy, bytesAfter, memoryAfter}
@@ -30,6 +32,7 @@ use Rattle.rules.specs.Demands.WellFormed.{Bytes, Proper, ProperAll, sou
 use Rattle.rules.proofs.Bursts.{held-length}
 use Rattle.rules.proofs.Checks.{passed}
 use Rattle.rules.proofs.Rows.{over-length}
+use Rattle.rules.proofs.Demands.Packets.{drive-held}
 
 -- ---- bytes
 
@@ -64,7 +67,7 @@ bytes-tested (b ∷ s) h (suc k) = bytes-tested s (and-eq-true-iff (ltb b 256) _
 
 -- what a change leaves of a phase and its halts is sound
 abbrev Sound : Bridge → Type 0
-Sound b = sound (b .phase) (b .halts) ≡ true
+Sound b = sound (b .dock .drives) (b .phase) (b .halts) ≡ true
 
 -- the bridge with this phase and these halts
 abbrev with : Bridge → Phase → Bool → Bool → Bridge
@@ -73,22 +76,22 @@ with b p o i = inPhase p (halted o i b)
 -- Mass Storage Reset, SOFT_RESET
 sound-reset : (b : Bridge) (p : Phase) (o i : Bool) → Sound (with b p o i) → Sound (made (massStorageReset p) (with b p o i))
 sound-reset b Awaiting o i s = refl
-sound-reset b (Busy d tag l) o i s = refl
+sound-reset b (Busy d lun tag l) o i s = refl
 sound-reset b (StatusWaiting tag residue status) o i s = refl
 sound-reset b (Stopped false) o i s = rw (and-eq-true-iff o i .0 s .0)
 sound-reset b (Stopped true) o i s = s
 
 sound-soft : (b : Bridge) (p : Phase) (o i : Bool) → Sound (with b p o i) → Sound (made (softReset p) (with b p o i))
 sound-soft b Awaiting o i s = refl
-sound-soft b (Busy d tag l) o i s = refl
+sound-soft b (Busy d lun tag l) o i s = refl
 sound-soft b (StatusWaiting tag residue status) o i s = refl
 sound-soft b (Stopped reset) o i s = s
 
 -- Clear Feature, of either pipe
 sound-out : (b : Bridge) (p : Phase) (o i : Bool) → Sound (with b p o i) → Sound (made (clearsPipe p Out i) (with b p o i))
 sound-out b Awaiting o i s = refl
-sound-out b (Busy Out tag l) o i s = s
-sound-out b (Busy In tag l) o i s = s
+sound-out b (Busy Out lun tag l) o i s = s
+sound-out b (Busy In lun tag l) o i s = s
 sound-out b (StatusWaiting tag residue status) o i s = s
 sound-out b (Stopped false) o i s = s
 sound-out b (Stopped true) o true s = refl
@@ -96,18 +99,19 @@ sound-out b (Stopped true) o false s = refl
 
 sound-in : (b : Bridge) (p : Phase) (o i : Bool) → Sound (with b p o i) → Sound (made (clearsPipe p In o) (with b p o i))
 sound-in b Awaiting o i s = refl
-sound-in b (Busy Out tag l) o i s = s
-sound-in b (Busy In tag l) o i s = s
+sound-in b (Busy Out lun tag l) o i s = s
+sound-in b (Busy In lun tag l) o i s = s
 sound-in b (StatusWaiting tag residue status) o i s = s
 sound-in b (Stopped false) o i s = s
 sound-in b (Stopped true) true i s = refl
 sound-in b (Stopped true) false i s = refl
 
--- a command, by whether L > 0 and whether its flags say in
-sound-busy : (tag l : ℕ) (z x : Bool) (h : Halts) → ltb 0 l ≡ z → sound (Busy (cond (z && x) In Out) tag l) h ≡ true
-sound-busy tag l true true h e = e
-sound-busy tag l true false h e = refl
-sound-busy tag l false x h e = refl
+-- a command for a drive that the dock holds, by whether L > 0 and whether its flags say in
+sound-busy : (drives : Drives) (lun : Lun) (tag l : ℕ) (z x : Bool) (h : Halts) → lunNumber lun < driveCount drives → ltb 0 l ≡ z
+    → sound drives (Busy (cond (z && x) In Out) lun tag l) h ≡ true
+sound-busy drives lun tag l true true h n e = rw (lt-ltb (lunNumber lun) (driveCount drives) n, e)
+sound-busy drives lun tag l true false h n e = lt-ltb (lunNumber lun) (driveCount drives) n
+sound-busy drives lun tag l false x h n e = lt-ltb (lunNumber lun) (driveCount drives) n
 
 -- a status that waits, whichever pipe it halts
 sound-status : (t : Bool) (d : Direction) (b : Bridge) (tag residue status : ℕ) → leb status 2 ≡ true
@@ -141,17 +145,17 @@ module _ (w : World) (g : WellFormed w) where
   keeps next s = record { sixteen = g .sixteen; bytes = g .bytes; memory = g .memory; phase = s; held = omega arith }
 
   -- a command, by whether its block is recognised
-  command : (t : Bool) (c : CommandPacket) → Sound (made (commandTaken t c) b)
-  command true c = sound-busy (c .tag) (c .length) (ltb 0 (c .length)) (eqb (c .flags) 0x80) (b .halts) refl
-  command false c = sound-status (ltb 0 (c .length)) (directionOf c) b (c .tag) (c .length) 1 refl
+  command : (t : Bool) (c : CommandPacket) → lunNumber (lunOf c) < driveCount (b .dock .drives) → Sound (made (commandTaken t c) b)
+  command true c n = sound-busy (b .dock .drives) (lunOf c) (c .tag) (c .length) (ltb 0 (c .length)) (eqb (c .flags) 0x80) (b .halts) n refl
+  command false c n = sound-status (ltb 0 (c .length)) (directionOf c) b (c .tag) (c .length) 1 refl
 
-  packet : (p : List ℕ) → Sound (made (packetChanges w p) b)
-  packet p = command (recognises (signatureOf (w .bytes)) p) (commandOf p)
+  packet : (p : List ℕ) (room : ℕ) → done (answer w (Packet p room)) ≡ true → Sound (made (packetChanges w p) b)
+  packet p room z = command (recognises (signatureOf (w .bytes)) p) (commandOf p) (drive-held w p room (eqb-true _ 0 z) .1)
 
   -- a report, by the phase that it meets
   report : (direction failed amount : ℕ) (p : Phase) → failed ≤ 1 → Sound (made (reportTaken direction failed amount p) b)
   report direction failed amount Awaiting f = g .phase
-  report direction failed amount (Busy host tag l) f =
+  report direction failed amount (Busy host lun tag l) f =
       let wrong : Bool = mismatch l host direction amount in
       sound-status (haltsPipe wrong l amount) host b tag (residueOf wrong l amount) (statusOf wrong failed) (status-most wrong failed f)
   report direction failed amount (StatusWaiting tag residue status) f = g .phase
@@ -197,12 +201,12 @@ module _ (w : World) (g : WellFormed w) where
       → WellFormed (world (made (changeDone w e) b) (bytesDone (w .bytes) e) (memoryDone (w .memory) e))
   taken BusReset h z = keeps _ refl
   taken (Control setup host room) h z = request (requestOf (setupOf setup)) (setupOf setup) host h
-  taken (Packet p room) h z = keeps _ (packet p)
+  taken (Packet p room) h z = keeps _ (packet p room z)
   taken (Report direction failed amount) h z =
       keeps _ (report direction failed amount (b .phase) (report-failed b direction failed amount (eqb-true _ 0 z)))
   taken (StatusRequest room) h z = keeps _ refl
   taken (Burst burst) h z = keeps b (g .phase)
-  taken (EndMark room) h z = keeps _ (packet (w .held))
+  taken (EndMark room) h z = keeps _ (packet (w .held) room z)
 
   -- an event, by whether it is answered 0 and whether its answer stops the bridge
   left : (e : Event) (t d : Bool) → (t ≡ true → WellFormed (world (made (changeDone w e) b) (bytesDone (w .bytes) e) (memoryDone (w .memory) e)))

@@ -8,6 +8,7 @@ use Rattle.rules.specs.declared.Bridge.{Bridge}
 use Rattle.rules.specs.declared.Direction.{Direction}
 use Rattle.rules.specs.declared.Direction.the-variants.{Out, In}
 use Rattle.rules.specs.declared.Halts.{Halts}
+use Rattle.rules.specs.declared.Lun.{Lun}
 use Rattle.rules.specs.declared.Phase.the-variants.{Busy, StatusWaiting}
 use Rattle.rules.specs.Words.{one}
 use Rattle.rules.specs.Step.{Report, Machine}
@@ -122,8 +123,8 @@ Each P (c ∷ cs) = P c × Each P cs
 -- what that case says.
 abbrev pub ThirteenCases : Machine → Type 0
 ThirteenCases m =
-    (s : m .State) (host : Direction) (tag l : ℕ) (direction failed amount : ℕ)
-    → m .shows s .bridge .configured ≡ true → m .shows s .bridge .phase ≡ Busy host tag l
+    (s : m .State) (host : Direction) (lun : Lun) (tag l : ℕ) (direction failed amount : ℕ)
+    → m .shows s .bridge .configured ≡ true → m .shows s .bridge .phase ≡ Busy host lun tag l
     → direction ≤ 2 → failed ≤ 1 → (direction ≡ 0 → amount ≡ 0)
     → (fitting l host direction amount cases ≡ 1)
     × (m .takes s (Report direction failed amount) .answer ≡ 0)

@@ -9,13 +9,14 @@ use lib.Dec.{eqb, ltb}
 use Rattle.rules.specs.declared.Direction.{Direction}
 use Rattle.rules.specs.declared.Direction.the-variants.{Out, In}
 use Rattle.rules.specs.declared.Dock.{Dock}
+use Rattle.rules.specs.declared.Lun.{Lun}
 use Rattle.rules.specs.declared.Phase.the-variants.{Awaiting}
 use Rattle.rules.specs.Words.{byte, word, one}
 use Rattle.rules.specs.Held.{World, Start, pageBytes, world, starting, byDefault, isStopped}
 use Rattle.rules.specs.Step.{Event, BusReset, Control, Packet, Report, StatusRequest, Burst, EndMark, Outcome, Machine, after, reached, done}
 use Rattle.rules.specs.Demands.Refusals.{damages}
 use Rattle.rules.specs.Demands.Requests.{wire, asking, ordering}
-use Rattle.rules.specs.Demands.Makers.{flagsFor, packet, Fills, passThrough, Askable, takenApart, telling, Free}
+use Rattle.rules.specs.Demands.Makers.{flagsFor, packet, Fills, passThrough, Askable, takenApart, telling, Free, Has}
 
 -- an event is answered 0 with these bytes
 abbrev pub Replies : {State : Type 0} → Outcome State → List ℕ → Type 0
@@ -160,11 +161,11 @@ StatusKeeps m =
     → (let next = m .shows (m .takes s (StatusRequest room) .next) in
     Keeps (m .shows s) next × (next .bridge .phase ≡ Awaiting) × (next .bridge .halts ≡ m .shows s .bridge .halts))
 
--- BOGUS_READ replies wLength zeros, Get Max LUN one.
+-- BOGUS_READ replies wLength zeros.
 abbrev pub ZerosAreTold : Machine → Type 0
 ZerosAreTold m =
     (s : m .State) (value index n : ℕ) → m .shows s .bridge .configured ≡ true
-    → Replies (m .takes s (asking 0xC0 0x01 value index n)) (replicate n 0) × Replies (m .takes s (asking 0xA1 0xFE 0 0 1)) (0 ∷ [])
+    → Replies (m .takes s (asking 0xC0 0x01 value index n)) (replicate n 0)
 
 -- ---- bytes
 
@@ -230,9 +231,9 @@ statusTaken m s es = m .takes (m .takes (after m s es) (ordering 0x02 0x01 0 0x8
 -- The status packet of a pass-through command tells its tag, what is left of L, and whether the drive failed.
 abbrev pub StatusIsTold : Machine → Type 0
 StatusIsTold m =
-    (s : m .State) (tag l : ℕ) (d : Direction) (action registers : ℕ → Bool) (count : ℕ) (contents : List ℕ) (failed amount : ℕ)
-    → Free (m .shows s) → tag < 2 ^ 32 → l < 2 ^ 32 → Askable action l d → length contents ≡ 8 → failed ≤ 1 → amount ≤ l
-    → (let p = packet tag l d (passThrough (byte 0x04 (m .shows s .bytes)) action registers count contents) [] in
+    (s : m .State) (lun : Lun) (tag l : ℕ) (d : Direction) (action registers : ℕ → Bool) (count : ℕ) (contents : List ℕ) (failed amount : ℕ)
+    → Free (m .shows s) → Has (m .shows s) lun → tag < 2 ^ 32 → l < 2 ^ 32 → Askable action l d → length contents ≡ 8 → failed ≤ 1 → amount ≤ l
+    → (let p = packet lun tag l d (passThrough (byte 0x04 (m .shows s .bytes)) action registers count contents) [] in
     let status = statusTaken m s (Packet p 11 ∷ Report (reported d) failed amount ∷ []) in
     (status .answer ≡ 0) × (takenApart (status .reply) ≡ telling tag (l - amount) failed))
 
@@ -243,17 +244,17 @@ Other signature block = (length block ≡ 16 → ⊥) ⊎ ((byte 0 block ≡ sig
 -- That of any other command tells its tag, all of L, and that it failed.
 abbrev pub OtherIsFailed : Machine → Type 0
 OtherIsFailed m =
-    (s : m .State) (tag l : ℕ) (d : Direction) (block filling : List ℕ)
-    → Free (m .shows s) → tag < 2 ^ 32 → l < 2 ^ 32 → Fills block filling → Other (byte 0x04 (m .shows s .bytes)) block
-    → (let status = statusTaken m s (Packet (packet tag l d block filling) 11 ∷ []) in
+    (s : m .State) (lun : Lun) (tag l : ℕ) (d : Direction) (block filling : List ℕ)
+    → Free (m .shows s) → Has (m .shows s) lun → tag < 2 ^ 32 → l < 2 ^ 32 → Fills block filling → Other (byte 0x04 (m .shows s .bytes)) block
+    → (let status = statusTaken m s (Packet (packet lun tag l d block filling) 11 ∷ []) in
     (status .answer ≡ 0) × (takenApart (status .reply) ≡ telling tag l 1))
 
 -- .. and halts the pipe of its direction, if it has one; the other stays.
 abbrev pub OtherHalts : Machine → Type 0
 OtherHalts m =
-    (s : m .State) (tag l : ℕ) (d : Direction) (block filling : List ℕ)
-    → Free (m .shows s) → Fills block filling → Other (byte 0x04 (m .shows s .bytes)) block
-    → (let left = m .shows (m .takes s (Packet (packet tag l d block filling) 11) .next) .bridge .halts in
+    (s : m .State) (lun : Lun) (tag l : ℕ) (d : Direction) (block filling : List ℕ)
+    → Free (m .shows s) → Has (m .shows s) lun → Fills block filling → Other (byte 0x04 (m .shows s .bytes)) block
+    → (let left = m .shows (m .takes s (Packet (packet lun tag l d block filling) 11) .next) .bridge .halts in
     (left .outward ≡ (ltb 0 l && eqb (flagsFor d) 0x00))
     × (left .inward ≡ ((ltb 0 l && eqb (flagsFor d) 0x80) || m .shows s .bridge .halts .inward)))
 

@@ -54,7 +54,7 @@ makes ops o = answers 0 o && sameBytes (o .operations) ops
 
 abbrev pub waitsWith : ℕ → ℕ → Phase → Bool
 waitsWith residue status Awaiting = false
-waitsWith residue status (Busy direction tag l) = false
+waitsWith residue status (Busy direction lun tag l) = false
 waitsWith residue status (StatusWaiting tag r s) = eqb r residue && eqb s status
 waitsWith residue status (Stopped reset) = false
 

@@ -10,10 +10,11 @@ use lib.Dec.{ltb}
 use Rattle.rules.specs.declared.CommandPacket.{CommandPacket}
 use Rattle.rules.specs.declared.Direction.{Direction}
 use Rattle.rules.specs.declared.Direction.the-variants.{Out, In}
+use Rattle.rules.specs.declared.Lun.{Lun}
 use Rattle.rules.specs.declared.Phase.the-variants.{Awaiting, Busy}
 use Rattle.rules.specs.declared.Request.the-variants.{SetConfiguration, GetConfiguration, ClearFeature, GetStatus, GetMaxLun, MassStorageReset, LoadConfigData, ReadConfigData, SoftReset, BogusRead}
 use Rattle.rules.specs.Words.{byte, bit, one}
-use Rattle.rules.specs.Held.{World, world, inPhase}
+use Rattle.rules.specs.Held.{World, driveCount, lunNumber, world, inPhase}
 use Rattle.rules.specs.Requests.{Named, Known, Describes}
 use Rattle.rules.specs.Step.{Control, Packet, Machine}
 use Rattle.rules.specs.Demands.Requests.{wire}
@@ -34,9 +35,9 @@ flagsFor In = 0x80
 abbrev pub wrapper : ℕ → ℕ → ℕ → ℕ → ℕ → List ℕ → List ℕ
 wrapper tag l flags lun size field = four 0x43425355 ++ four tag ++ four l ++ flags ∷ lun ∷ size ∷ field
 
--- .. for the one drive, with a block and what fills its field behind it
-abbrev pub packet : ℕ → ℕ → Direction → List ℕ → List ℕ → List ℕ
-packet tag l d block filling = wrapper tag l (flagsFor d) 0 (length block) (block ++ filling)
+-- .. for a drive, with a block and what fills its field behind it
+abbrev pub packet : Lun → ℕ → ℕ → Direction → List ℕ → List ℕ → List ℕ
+packet lun tag l d block filling = wrapper tag l (flagsFor d) (lunNumber lun) (length block) (block ++ filling)
 
 -- "The only legal values are 1 through 16", of a field of sixteen bytes
 pub record Fills (block filling : List ℕ) : Type 0 where
@@ -77,12 +78,12 @@ telling tag residue status = record { size = 13; signature = 0x53425355; tag = t
 
 -- ---- what was made is read back
 
--- A command packet says its tag, L, direction and block; with L = 0 both directions say the same.
+-- A command packet says its tag, L, direction, LUN and block; with L = 0 both directions say the same.
 abbrev pub PacketReadBack : (List ℕ → CommandPacket) → (CommandPacket → Direction) → (List ℕ → List ℕ) → Type 0
 PacketReadBack command way part =
-    (tag l : ℕ) (d : Direction) (block filling : List ℕ)
-    → (let p = packet tag l d block filling in
-    (command p ≡ record { tag = tag; length = l; flags = flagsFor d; lun = 0; «block_length» = length block })
+    (lun : Lun) (tag l : ℕ) (d : Direction) (block filling : List ℕ)
+    → (let p = packet lun tag l d block filling in
+    (command p ≡ record { tag = tag; length = l; flags = flagsFor d; lun = lunNumber lun; «block_length» = length block })
     × (0 < l → way (command p) ≡ d)
     × (l ≡ 0 → way (command p) ≡ Out)
     × (part p ≡ block ++ filling))
@@ -107,29 +108,35 @@ pub record Free (w : World) : Type 0 where
   pub awaits : w .bridge .phase ≡ Awaiting
   pub runs : w .bridge .halts .outward ≡ false
 
+-- the dock holds this drive
+abbrev pub Has : World → Lun → Type 0
+Has w lun = lunNumber lun < driveCount (w .bridge .dock .drives)
+
 -- A made packet is answered 0 where there is room for eleven operations.
 abbrev pub MadeIsAccepted : Machine → Type 0
 MadeIsAccepted m =
-    (s : m .State) (tag l : ℕ) (d : Direction) (block filling : List ℕ) (room : ℕ)
-    → Free (m .shows s) → Fills block filling → 11 ≤ room → m .takes s (Packet (packet tag l d block filling) room) .answer ≡ 0
+    (s : m .State) (lun : Lun) (tag l : ℕ) (d : Direction) (block filling : List ℕ) (room : ℕ)
+    → Free (m .shows s) → Has (m .shows s) lun → Fills block filling → 11 ≤ room
+    → m .takes s (Packet (packet lun tag l d block filling) room) .answer ≡ 0
 
--- A made pass-through block with the bridge's signature is begun, with the packet's tag and length, and in its direction if there is one; nothing else
--- changes.
+-- A made pass-through block with the bridge's signature is begun, with the packet's LUN, tag and length, and in its direction if there is one; nothing
+-- else changes.
 abbrev pub MadeIsBegun : Machine → Type 0
 MadeIsBegun m =
-    (s : m .State) (tag l : ℕ) (d : Direction) (action registers : ℕ → Bool) (count : ℕ) (contents : List ℕ) (room : ℕ)
-    → Free (m .shows s) → Askable action l d → length contents ≡ 8 → 11 ≤ room
-    → (let p = packet tag l d (passThrough (byte 0x04 (m .shows s .bytes)) action registers count contents) [] in
+    (s : m .State) (lun : Lun) (tag l : ℕ) (d : Direction) (action registers : ℕ → Bool) (count : ℕ) (contents : List ℕ) (room : ℕ)
+    → Free (m .shows s) → Has (m .shows s) lun → Askable action l d → length contents ≡ 8 → 11 ≤ room
+    → (let p = packet lun tag l d (passThrough (byte 0x04 (m .shows s .bytes)) action registers count contents) [] in
     m .shows (m .takes s (Packet p room) .next)
-    ≡ world (inPhase (Busy (cond (ltb 0 l) d Out) tag l) (m .shows s .bridge)) (m .shows s .bytes) (m .shows s .memory))
+    ≡ world (inPhase (Busy (cond (ltb 0 l) d Out) lun tag l) (m .shows s .bridge)) (m .shows s .bytes) (m .shows s .memory))
 
 -- ---- what is accepted was made so
 
--- An accepted packet was made: it has a tag, an L, a direction, a block and a filling.
+-- An accepted packet was made: it has a drive that the dock holds, a tag, an L, a direction, a block and a filling.
 abbrev pub AcceptedWasMade : Machine → Type 0
 AcceptedWasMade m =
     (s : m .State) (p : List ℕ) (room : ℕ) → Bytes p → m .takes s (Packet p room) .answer ≡ 0
-    → (tag : ℕ) × (l : ℕ) × (d : Direction) × (block : List ℕ) × (filling : List ℕ) × Fills block filling × (p ≡ packet tag l d block filling)
+    → (lun : Lun) × (tag : ℕ) × (l : ℕ) × (d : Direction) × (block : List ℕ) × (filling : List ℕ)
+    × Has (m .shows s) lun × Fills block filling × (p ≡ packet lun tag l d block filling)
 
 -- 14 is for what has the layout of a command packet, and 13 for what has not.
 abbrev pub LaidOut : List ℕ → Type 0
@@ -145,9 +152,9 @@ DamageIsTold m =
 abbrev pub BegunWasMade : Machine → Type 0
 BegunWasMade m =
     (s : m .State) (p : List ℕ) (room : ℕ) → Bytes p → (m .takes s (Packet p room) .operations ≡ [] → ⊥)
-    → (tag : ℕ) × (l : ℕ) × (d : Direction) × (action : (ℕ → Bool)) × (registers : (ℕ → Bool)) × (count : ℕ) × (contents : List ℕ)
-    × Askable action l d × (length contents ≡ 8)
-    × (p ≡ packet tag l d (passThrough (byte 0x04 (m .shows s .bytes)) action registers count contents) [])
+    → (lun : Lun) × (tag : ℕ) × (l : ℕ) × (d : Direction) × (action : (ℕ → Bool)) × (registers : (ℕ → Bool)) × (count : ℕ) × (contents : List ℕ)
+    × Has (m .shows s) lun × Askable action l d × (length contents ≡ 8)
+    × (p ≡ packet lun tag l d (passThrough (byte 0x04 (m .shows s .bytes)) action registers count contents) [])
 
 -- ---- setups
 

@@ -1,4 +1,4 @@
--- Demand 2, operations: what each action bit, the direction and L add, move or change in the list, the bits of its select, and how long it is.
+-- Demand 2, operations: what each action bit, the direction, L and the LUN add, move or change in the list, the bits of its select, and how long it is.
 use mathlib.Core.Path.{_≡_}
 use mathlib.Core.Bool.{true, false, cond, not}
 use mathlib.Core.List.{List, [], _∷_, _++_}
@@ -7,8 +7,11 @@ use lib.ListN.{length}
 use lib.Dec.{ltb}
 use Rattle.rules.specs.declared.Direction.{Direction}
 use Rattle.rules.specs.declared.Direction.the-variants.{In, Out}
+use Rattle.rules.specs.declared.Lun.{Lun}
+use Rattle.rules.specs.declared.Lun.the-variants.{Lun0, Lun1}
 use Rattle.rules.specs.Words.{byte, bit, bitOf, one}
-use Rattle.rules.specs.Packets.{commandOf, blockOf, directionOf, signatureOf, recognises}
+use Rattle.rules.specs.Held.{lunNumber}
+use Rattle.rules.specs.Packets.{commandOf, blockOf, directionOf, lunOf, signatureOf, recognises}
 use Rattle.rules.specs.Operations.{Operation, Poll, Select, Write, Read, Transfer, codes, action, selected, content, only, operationsOf}
 use Rattle.rules.specs.Step.{Packet, Machine}
 
@@ -17,7 +20,8 @@ abbrev pub ExactOperations : Machine → Type 0
 ExactOperations m =
     (s : m .State) (p : List ℕ) (room : ℕ) → m .takes s (Packet p room) .answer ≡ 0
     → m .takes s (Packet p room) .operations
-    ≡ cond (recognises (signatureOf (m .shows s .bytes)) p) (codes (operationsOf (blockOf p) (commandOf p .length) (directionOf (commandOf p)))) []
+    ≡ cond (recognises (signatureOf (m .shows s .bytes)) p)
+    (codes (operationsOf (lunOf (commandOf p)) (blockOf p) (commandOf p .length) (directionOf (commandOf p)))) []
 
 -- two lists that are the same but for one place, where the first has x and the second y
 pub record Differ (before after x y : List Operation) : Type 0 where
@@ -80,21 +84,32 @@ selectsIn (Transfer operand ∷ os) = selectsIn os
 
 -- A block has one select, and of its bits request 4 says: "Drives built to the early ATA standards expect bits 7 and 5 of the device register to be
 -- one. When register 6 isn't selected .. It should be 0xA0 or 0xB0. When register 6 is selected the caller's byte stands, with only bit 4 replaced as
--- before."
-abbrev pub SelectBits : Lists → Type 0
+-- before." And request 7: "where action bit 5 is clear the select's bit 4 is the LUN instead of 0".
+abbrev pub SelectBits : (Lun → Lists) → Type 0
 SelectBits ops =
-    (block : List ℕ) (l : ℕ) (d : Direction)
-    → (s : ℕ) × (selectsIn (ops block l d) ≡ s ∷ [])
+    (lun : Lun) (block : List ℕ) (l : ℕ) (d : Direction)
+    → (s : ℕ) × (selectsIn (ops lun block l d) ≡ s ∷ [])
     × (selected block 6 ≡ false → (bitOf 7 s ≡ 1) × (bitOf 5 s ≡ 1) × (s ≡ 0xA0 + 16 * bitOf 4 s))
     × (selected block 6 ≡ true → (k : ℕ) → (k ≡ 4 → ⊥) → bitOf k s ≡ bitOf k (byte 11 block))
-    × (bitOf 4 s ≡ cond (bit 5 (action block)) (bitOf 4 (byte 11 block)) 0)
+    × (bitOf 4 s ≡ cond (bit 5 (action block)) (bitOf 4 (byte 11 block)) (lunNumber lun))
 
--- "in it bit 4 becomes bit 4 of byte 11 if action bit 5 is set, else 0"
-abbrev pub SelectBit : Lists → Type 0
+-- the byte of a select, but for its bit 4
+abbrev pub device : List ℕ → ℕ
+device block = cond (selected block 6) (byte 11 block - 16 * bitOf 4 (byte 11 block)) 0xA0
+
+-- "in it bit 4 becomes bit 4 of byte 11 if action bit 5 is set, else" the LUN
+abbrev pub SelectBit : (Lun → Lists) → Type 0
 SelectBit ops =
-    (block block' : List ℕ) (l : ℕ) (d : Direction) → Sets 5 block block'
-    → (b : ℕ) × (b ≡ cond (selected block 6) (byte 11 block - 16 * bitOf 4 (byte 11 block)) 0xA0)
-    × Differ (ops block l d) (ops block' l d) (Select b ∷ []) (Select (b + 16 * bitOf 4 (byte 11 block)) ∷ [])
+    (lun : Lun) (block block' : List ℕ) (l : ℕ) (d : Direction) → Sets 5 block block'
+    → Differ (ops lun block l d) (ops lun block' l d)
+    (Select (device block + 16 * lunNumber lun) ∷ []) (Select (device block + 16 * bitOf 4 (byte 11 block)) ∷ [])
+
+-- What the LUN does: where action bit 5 is clear it is bit 4 of the select, and nothing else; where it is set, nothing at all.
+abbrev pub LunBit : (Lun → Lists) → Type 0
+LunBit ops =
+    (block : List ℕ) (l : ℕ) (d : Direction)
+    → (bitOf 5 (action block) ≡ 1 → ops Lun0 block l d ≡ ops Lun1 block l d)
+    × (bitOf 5 (action block) ≡ 0 → Differ (ops Lun0 block l d) (ops Lun1 block l d) (Select (device block) ∷ []) (Select (device block + 16) ∷ []))
 
 -- "operand is .. plus 2, 4, 8, 16 for action bits 6, 4, 3, 7": bit k adds n to the operand and changes nothing else
 abbrev pub Weighs : Lists → ℕ → ℕ → Type 0

@@ -28,7 +28,7 @@ MultiplesTakeMore onePage = (page times start n : ℕ) → onePage page start n 
 abbrev pub paged : PageSize → World → World
 paged page w =
     let b : Bridge = w .bridge in
-    let dock : Dock = docked (b .dock .«bus_powered») page in
+    let dock : Dock = docked (b .dock .«bus_powered») page (b .dock .drives) in
     holding (w .held) (world (record { dock = dock; configured = b .configured; phase = b .phase; halts = b .halts }) (w .bytes) (w .memory))
 
 -- A dock with smaller pages refuses more, by 10, and accepts nothing new: with a multiple of its page size every event is answered as before, or was

@@ -29,7 +29,7 @@ Both tag amount = (tag < 2 ^ 32) × (amount < 2 ^ 32)
 
 abbrev pub Numbers : Phase → Type 0
 Numbers Awaiting = Unit {0}
-Numbers (Busy direction tag l) = Both tag l
+Numbers (Busy direction lun tag l) = Both tag l
 Numbers (StatusWaiting tag residue status) = Both tag residue
 Numbers (Stopped reset) = Unit {0}
 
@@ -39,7 +39,7 @@ Sized (Sets c) = Unit {0}
 Sized Awaits = Unit {0}
 Sized Resets = Unit {0}
 Sized Drops = Unit {0}
-Sized (Begins direction tag l) = Both tag l
+Sized (Begins direction lun tag l) = Both tag l
 Sized (Finishes direction halts status tag residue) = Both tag residue
 Sized Stops = Unit {0}
 Sized Notes = Unit {0}
