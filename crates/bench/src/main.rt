@@ -6,6 +6,7 @@ use libc::STDIN_FILENO;
 use libc::STDOUT_FILENO;
 use rules::Bridge;
 use rules::Dock;
+use rules::Drives;
 use rules::PageSize;
 
 // The bridge, and of the block that was read the part from `start` to `end` that is still to be taken. `last`: the input has ended.
@@ -84,6 +85,7 @@ fn serve(input: &mut [u8], memory: &mut [u8], output: &mut [u8]) {
     let dock = Dock {
         bus_powered: false,
         page: PageSize::Of256,
+        drives: Drives::One,
     };
     let mut s = Stream {
         bridge: Bridge::power_on(dock),

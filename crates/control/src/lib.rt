@@ -7,7 +7,7 @@ ghost use lib.ListN.{take, drop, replicate};
 ghost use Rattle.outcomes.specs.Outcomes.{outcome, leftBy};
 ghost use Rattle.control.specs.Standing.{leftWhere};
 ghost use Rattle.rules.specs.Words.{over, one};
-ghost use Rattle.rules.specs.Held.{world, configuration};
+ghost use Rattle.rules.specs.Held.{world, configuration, maxLun};
 ghost use Rattle.rules.specs.Requests.{Known, inMemory, haltOf, bytesAfter, memoryAfter};
 ghost use Rattle.rules.specs.Answers.{seenOf};
 ghost use Rattle.rules.specs.Step.{Control};
@@ -77,6 +77,14 @@ fn halt_of(pipe: u16, b: Bridge) -> u8
     b.halts.inward as u8
 }
 
+fn max_lun_of(b: Bridge) -> u8
+    ensures { λ n. ⌜ n ≡ maxLun (b .dock .drives) ⌝ }
+{
+    let dock = b.dock;
+    let drives = dock.drives;
+    drives.max_lun()
+}
+
 // Done, with a reply of so many bytes.
 fn replied(count: u16) -> Outcome
     ensures { λ o. ⌜ o ≡ outcome 0 count Change.Nothing ⌝ }
@@ -112,7 +120,7 @@ pub fn serve(
         Request::GetConfiguration => number(configuration_of(b), 1, reply),
         Request::ClearFeature => done(0, recovery::clear_feature(s.index, b)),
         Request::GetStatus => number(halt_of(s.index, b), 2, reply),
-        Request::GetMaxLun => number(0, 1, reply),
+        Request::GetMaxLun => number(max_lun_of(b), 1, reply),
         Request::MassStorageReset => done(0, recovery::mass_storage_reset(phase)),
         Request::LoadConfigData => {
             load(s, host, bytes, memory);

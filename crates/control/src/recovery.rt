@@ -16,6 +16,7 @@ fn clears(phase: Phase) -> bool
         Phase::Awaiting
         | Phase::Busy {
             direction: _,
+            lun: _,
             tag: _,
             length: _,
         }

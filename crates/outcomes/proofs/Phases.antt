@@ -12,25 +12,25 @@ use Rattle.rules.specs.Stopping.{clears}
 
 pub none-awaits : (p : Phase) → OneOf (1 ∷ 2 ∷ 3 ∷ []) (tagOf the-type p) → isAwaiting p ≡ false
 none-awaits Awaiting h = absurd (miss (1 ∷ 2 ∷ 3 ∷ []) 0 tt h)
-none-awaits (Busy direction tag l) h = refl
+none-awaits (Busy direction lun tag l) h = refl
 none-awaits (StatusWaiting tag residue status) h = refl
 none-awaits (Stopped reset) h = refl
 
 pub none-busy : (p : Phase) → OneOf (0 ∷ 2 ∷ 3 ∷ []) (tagOf the-type p) → isBusy p ≡ false
 none-busy Awaiting h = refl
-none-busy (Busy direction tag l) h = absurd (miss (0 ∷ 2 ∷ 3 ∷ []) 1 tt h)
+none-busy (Busy direction lun tag l) h = absurd (miss (0 ∷ 2 ∷ 3 ∷ []) 1 tt h)
 none-busy (StatusWaiting tag residue status) h = refl
 none-busy (Stopped reset) h = refl
 
 pub none-waits : (p : Phase) → OneOf (0 ∷ 1 ∷ 3 ∷ []) (tagOf the-type p) → isStatusWaiting p ≡ false
 none-waits Awaiting h = refl
-none-waits (Busy direction tag l) h = refl
+none-waits (Busy direction lun tag l) h = refl
 none-waits (StatusWaiting tag residue status) h = absurd (miss (0 ∷ 1 ∷ 3 ∷ []) 2 tt h)
 none-waits (Stopped reset) h = refl
 
 pub none-stopped : (p : Phase) → OneOf (0 ∷ 1 ∷ 2 ∷ []) (tagOf the-type p) → (isStopped p ≡ false) × (clears p ≡ true)
 none-stopped Awaiting h = (refl, refl)
-none-stopped (Busy direction tag l) h = (refl, refl)
+none-stopped (Busy direction lun tag l) h = (refl, refl)
 none-stopped (StatusWaiting tag residue status) h = (refl, refl)
 none-stopped (Stopped reset) h = absurd (miss (0 ∷ 1 ∷ 2 ∷ []) 3 tt h)
 

@@ -3,6 +3,7 @@ use mathlib.Core.Path.{refl, ap}
 use mathlib.Core.Bool.{false}
 use mathlib.Core.List.{[]}
 use Rattle.rules.specs.declared.Bridge.{Bridge}
+use Rattle.rules.specs.declared.Drives.the-variants.{One}
 use Rattle.rules.specs.declared.PageSize.the-variants.{Of256}
 use Rattle.rules.specs.Held.{docked, powerOn}
 use Rattle.rules.specs.Promise.{Left}
@@ -22,7 +23,7 @@ outcomeOf l = outcome (l .answer) (l .count) (l .change)
 
 pub «bus_reset» : OneOutcome BusReset.Kinds.ps BusReset.Kinds.r BusReset.Reads.Post
 «bus_reset» κs a r r' left left' p q =
-    let any : Bridge = powerOn (docked false Of256) in
+    let any : Bridge = powerOn (docked false Of256 One) in
     (ap outcomeOf (only (p any [] []) (q any [] [])), refl)
 
 pub refused : OneOutcome Refused.Kinds.ps Refused.Kinds.r Refused.Reads.Post

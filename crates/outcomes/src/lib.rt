@@ -54,6 +54,7 @@ pub fn is_stopped(phase: Phase) -> bool
         Phase::Awaiting
         | Phase::Busy {
             direction: _,
+            lun: _,
             tag: _,
             length: _,
         }
@@ -144,11 +145,13 @@ pub fn changed(change: Change, b: Bridge) -> Bridge
         Change::Drops => b,
         Change::Begins {
             direction,
+            lun,
             tag,
             length,
         } => {
             let busy = Phase::Busy {
                 direction: direction,
+                lun: lun,
                 tag: tag,
                 length: length,
             };

@@ -59,6 +59,7 @@ pub fn report(b: Bridge, direction: u8, failed: u8, amount: u32) -> Outcome
     match phase {
         Phase::Busy {
             direction: host,
+            lun: _,
             tag,
             length,
         } => {

@@ -67,6 +67,7 @@ pub fn status(b: Bridge, reply: &mut [u8]) -> Outcome
         Phase::Awaiting
         | Phase::Busy {
             direction: _,
+            lun: _,
             tag: _,
             length: _,
         }

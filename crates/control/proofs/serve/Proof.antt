@@ -40,6 +40,9 @@ number-requires-2 c κs = search needs
 enum-told-5 : tie.Need-enum-told-5
 enum-told-5 c = search needs
 
+max-lun-of-requires : tie.Need-max-lun-of-requires
+max-lun-of-requires c κs = search needs
+
 number-requires-3 : tie.Need-number-requires-3
 number-requires-3 c κs = search needs
 
@@ -115,7 +118,7 @@ same-length-3 : tie.Need-same-length-3
 same-length-3 c = search needs
 
 returns-5 : tie.Need-returns-5
-returns-5 c = rw (c .before .before .before .before .enum-told5 .given .1, c .before .before .number3 .ensures .0, c .before .before .number3 .ensures .1)
+returns-5 c = rw (c .before .before .before .before .before .enum-told5 .given .1, c .before .before .number3 .ensures .0, c .before .before .number3 .ensures .1, c .before .before .before .before .max-lun-of .ensures)
 
 returns-6 : tie.Need-returns-6
 unfolding over
@@ -169,6 +172,7 @@ serve-spec =
     halt-of-requires
     number-requires-2
     enum-told-5
+    max-lun-of-requires
     number-requires-3
     enum-told-6
     mass-storage-reset-requires
