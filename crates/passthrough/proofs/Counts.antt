@@ -1,6 +1,6 @@
 -- Bits and tests as numbers, how many operations a block makes as the code counts them, and how many at most.
 use mathlib.Core.Path.{_≡_, refl, sym, ap, _∙_}
-use mathlib.Core.Bool.{Bool, true, false, cond, not}
+use mathlib.Core.Bool.{Bool, true, false, not}
 use mathlib.Core.List.{List}
 use Prim.Native.Nat.{ℕ, suc, _+_, _-_, _/_, _^_, _≤_, _<_}
 use native.Mathlib.Nat.{div-div-eq-div-mul, pow-suc}
@@ -13,15 +13,11 @@ use borrow.Author.Tests.{eqb-true, eqb-false}
 use Rattle.lent.proofs.Laws.{bool-byte}
 use Rattle.rules.proofs.Demands.Operations.{counted}
 use Rattle.rules.specs.declared.Direction.{Direction}
+use Rattle.rules.specs.declared.Lun.{Lun}
 use Rattle.rules.specs.Words.{byte, bit, bitOf, one}
 use Rattle.rules.specs.Operations.{action, operationsOf}
 use Rattle.rules.specs.Demands.Operations.{tally}
 use Rattle.passthrough.specs.Rows.{rising}
-
--- what a test may leave out is no more than it is
-pub cond-most : (t : Bool) (n : ℕ) → cond t n 0 ≤ n
-cond-most true n = omega arith
-cond-most false n = omega arith
 
 -- the set bits of a number, bit by bit
 ones-from : (k n : ℕ) → ones (n / 2 ^ k) ≡ bitOf k n + ones (n / 2 ^ suc k)
@@ -54,23 +50,23 @@ seven-eight a b c d e f g h = omega arith
 written : (p b t g n m : ℕ) → p ≡ 1 - b → b < 2 → t + g ≡ n → p + 2 + t + m ≡ 2 - b + n + 1 - g + m
 written p b t g n m hp hb hn = omega arith
 
-module _ (block : List ℕ) (l : ℕ) (d : Direction) (h : byte 3 block < 256) where
-  pub count-read : bit 0 (action block) ≡ true → length (operationsOf block l d) ≡ 2 - bitOf 2 (action block) + ones (byte 3 block)
-  count-read e = omega (arith, counted block l d .0 (eqb-true _ 1 e) .0, one-not (bitOf 2 (action block)) (omega arith), ones-tally block h)
+module _ (lun : Lun) (block : List ℕ) (l : ℕ) (d : Direction) (h : byte 3 block < 256) where
+  pub count-read : bit 0 (action block) ≡ true → length (operationsOf lun block l d) ≡ 2 - bitOf 2 (action block) + ones (byte 3 block)
+  count-read e = omega (arith, counted lun block l d .0 (eqb-true _ 1 e) .0, one-not (bitOf 2 (action block)) (omega arith), ones-tally block h)
 
   pub count-write : bit 0 (action block) ≡ false
-      → length (operationsOf block l d)
+      → length (operationsOf lun block l d)
       ≡ 2 - bitOf 2 (action block) + ones (byte 3 block) + 1 - bitOf 6 (byte 3 block) + boolByte (ltb 0 l)
   count-write e =
       let other : bitOf 0 (action block) ≡ 1 → ⊥ = eqb-false _ 1 e in
       let registers = seven-eight _ _ _ _ _ _ _ _ ∙ sym (ones-tally block h) in
       rw (bool-byte (ltb 0 l))
-      (counted block l d .1 (omega arith) .0 ∙ written _ _ _ _ _ _ (one-not (bitOf 2 (action block)) (omega arith)) (omega arith) registers)
+      (counted lun block l d .1 (omega arith) .0 ∙ written _ _ _ _ _ _ (one-not (bitOf 2 (action block)) (omega arith)) (omega arith) registers)
 
 -- "At most 11 operations"
-pub most : (block : List ℕ) (l : ℕ) (d : Direction) → length (operationsOf block l d) ≤ 11
-most block l d = go (bit 0 (action block)) refl
+pub most : (lun : Lun) (block : List ℕ) (l : ℕ) (d : Direction) → length (operationsOf lun block l d) ≤ 11
+most lun block l d = go (bit 0 (action block)) refl
   where
-    go : (t : Bool) → bit 0 (action block) ≡ t → length (operationsOf block l d) ≤ 11
-    go true e = omega (arith, counted block l d .0 (eqb-true _ 1 e) .1)
-    go false e = let other : bitOf 0 (action block) ≡ 1 → ⊥ = eqb-false _ 1 e in counted block l d .1 (omega arith) .1
+    go : (t : Bool) → bit 0 (action block) ≡ t → length (operationsOf lun block l d) ≤ 11
+    go true e = omega (arith, counted lun block l d .0 (eqb-true _ 1 e) .1)
+    go false e = let other : bitOf 0 (action block) ≡ 1 → ⊥ = eqb-false _ 1 e in counted lun block l d .1 (omega arith) .1

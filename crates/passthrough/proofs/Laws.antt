@@ -7,6 +7,7 @@ use lib.Dec.{ltb}
 use lib.ListN.{length}
 use borrow.Author.Tests.{not-true, not-false, ne-eqb}
 use Rattle.rules.specs.declared.Direction.{Direction}
+use Rattle.rules.specs.declared.Lun.{Lun}
 use Rattle.rules.specs.Words.{laid}
 use Rattle.rules.specs.Packets.{recognised}
 use Rattle.rules.specs.Operations.{Operation, codes, operationsOf}
@@ -14,12 +15,12 @@ use Rattle.passthrough.proofs.Rows.{length-codes}
 use Rattle.passthrough.specs.declared.Judgement.the-variants.{Unrecognised, NoRoom, Made}
 use Rattle.passthrough.specs.Judgements.{Judged, judgement, judged}
 
-module _ (signature : ℕ) (block : List ℕ) (size l : ℕ) (d : Direction) (row : List ℕ) where
+module _ (lun : Lun) (signature : ℕ) (block : List ℕ) (size l : ℕ) (d : Direction) (row : List ℕ) where
   abbrev right : Judged
-  right = judged signature block size l d row
+  right = judged lun signature block size l d row
 
   abbrev made : List Operation
-  made = operationsOf block l d
+  made = operationsOf lun block l d
 
   pub not-sixteen : (length block ≡ 16 → ⊥) → judgement Unrecognised row ≡ right
   not-sixteen n = rw (ne-eqb (length block) 16 n)

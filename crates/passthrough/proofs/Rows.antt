@@ -1,6 +1,6 @@
 -- Rows of operations: what stands behind what, and the room that it takes.
 use mathlib.Core.Path.{_≡_, refl, sym, ap, _∙_}
-use mathlib.Core.Bool.{Bool, true, false}
+use mathlib.Core.Bool.{Bool, true, false, cond}
 use mathlib.Core.List.{List, [], _∷_, _++_, append-assoc}
 use Prim.Native.Nat.{ℕ, suc, _+_, _≤_, _<_}
 use native.Mathlib.Nat.{add-zero, zero-add, le-refl}
@@ -9,8 +9,8 @@ use native.Mathlib.Numerals.{add-one}
 use native.Mathlib.Omega.{arith}
 use lib.ListN.{length, length-append}
 use Rattle.rules.specs.declared.Direction.{Direction}
-use Rattle.rules.specs.Words.{laid}
-use Rattle.rules.specs.Operations.{Operation, Read, code, codes, polls, selects, writes, reads, transfers, writeBlock, readBlock, commanded}
+use Rattle.rules.specs.Words.{bit, laid}
+use Rattle.rules.specs.Operations.{Operation, Select, Read, action, code, codes, polls, writes, reads, transfers, writeBlock, readBlock, commanded}
 use Rattle.lent.specs.Rows.{Put as PutNumbers}
 use Rattle.lent.proofs.Rows.{put-length as numbers-length, put-put as put-numbers, put-laid as numbers-laid}
 use Rattle.passthrough.specs.Rows.{PutOperations, FitsOperations, rising, accesses}
@@ -50,12 +50,28 @@ put-laid {os = os} p h = (omega (arith, p .moved), numbers-laid (as-codes p) (rw
 length-parts : (p q r s t : List Operation) → length (p ++ q ++ r ++ s ++ t) ≡ length p + length q + length r + length s + length t
 length-parts p q r s t = simp length-append
 
-pub length-written : (block : List ℕ) (l : ℕ) (d : Direction) → length (writeBlock block l d)
-    ≡ length (polls block) + length (writes block (rising 6)) + length (commanded block) + length (transfers block l d) + 1
-length-written block l d = length-parts (polls block) (writes block (rising 6)) (commanded block) (transfers block l d) (Read 7 ∷ [])
+pub length-written : (select : ℕ) (block : List ℕ) (l : ℕ) (d : Direction) → length (writeBlock select block l d)
+    ≡ length (polls block) + length (writes block (rising 6)) + length (commanded select block) + length (transfers block l d) + 1
+length-written select block l d = length-parts (polls block) (writes block (rising 6)) (commanded select block) (transfers block l d) (Read 7 ∷ [])
 
-pub length-read : (block : List ℕ) → length (readBlock block) ≡ length (polls block) + 1 + length (reads block (rising 8))
-length-read block = length-append (polls block ++ selects block) (reads block (rising 8)) ∙ rw (length-append (polls block) (selects block))
+pub length-read : (select : ℕ) (block : List ℕ) → length (readBlock select block) ≡ length (polls block) + 1 + length (reads block (rising 8))
+length-read select block =
+    length-append (polls block ++ Select select ∷ []) (reads block (rising 8)) ∙ rw (length-append (polls block) (Select select ∷ []))
+
+-- .. whatever its select is
+pub read-alike : (s s' : ℕ) (block : List ℕ) → length (readBlock s block) ≡ length (readBlock s' block)
+read-alike s s' block = length-read s block ∙ sym (length-read s' block)
+
+pub written-alike : (s s' : ℕ) (block : List ℕ) (l : ℕ) (d : Direction) → length (writeBlock s block l d) ≡ length (writeBlock s' block l d)
+written-alike s s' block l d =
+    length-written s block l d ∙ rw (go (bit 1 (action block))) (sym (length-written s' block l d))
+  where
+    seven : List Operation
+    seven = writes block (7 ∷ [])
+
+    go : (t : Bool) → length (cond t (seven ++ Select s ∷ []) (Select s ∷ seven)) ≡ length (cond t (seven ++ Select s' ∷ []) (Select s' ∷ seven))
+    go true = length-append seven (Select s ∷ []) ∙ sym (length-append seven (Select s' ∷ []))
+    go false = refl
 
 -- ---- what a list of registers makes, register by register
 

@@ -5,6 +5,7 @@ use mathlib.Core.List.{List}
 use lib.Dec.{eqb, ltb}
 use lib.ListN.{length}
 use Rattle.rules.specs.declared.Direction.{Direction}
+use Rattle.rules.specs.declared.Lun.{Lun}
 use Rattle.rules.specs.Words.{laid}
 use Rattle.rules.specs.Packets.{recognised}
 use Rattle.rules.specs.Operations.{codes, operationsOf}
@@ -25,7 +26,7 @@ decided known short made row =
     judgement (cond known (cond short NoRoom (Made (length made))) Unrecognised) (cond (known && not short) (laid made row) row)
 
 -- a block of sixteen bytes that the rules recognise makes the operations that the rules list
-abbrev pub judged : ℕ → List ℕ → ℕ → ℕ → Direction → List ℕ → Judged
-judged signature block size l d row =
-    let made : List ℕ = codes (operationsOf block l d) in
+abbrev pub judged : Lun → ℕ → List ℕ → ℕ → ℕ → Direction → List ℕ → Judged
+judged lun signature block size l d row =
+    let made : List ℕ = codes (operationsOf lun block l d) in
     decided (eqb (length block) 16 && recognised signature block size l d) (ltb (length row) (length made)) made row

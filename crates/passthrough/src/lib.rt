@@ -1,5 +1,5 @@
 // The pass-through block, judged: whether its sixteen bytes are recognised, how many register operations they make, and the operations.
-// `expected` is the packet's length L, `size` its block length.
+// `expected` is the packet's length L, `size` its block length; `lun` is the drive that it is for, and `select` the select's operand.
 ghost use mathlib.Core.Path.{_≡_};
 ghost use mathlib.Core.Bool.{true, cond, not};
 ghost use mathlib.Core.List.{[], _∷_};
@@ -10,8 +10,9 @@ ghost use Rattle.passthrough.specs.Rows.{PutOperations, FitsOperations, 
 ghost use Rattle.passthrough.specs.Judgements.{judgement, judged};
 ghost use Rattle.rules.specs.Words.{byte, bit as bitTest, bitOf, laid};
 ghost use Rattle.rules.specs.Packets.{readable, recognised};
-ghost use Rattle.rules.specs.Operations.{Operation, Poll, Transfer, coded, code, codes, only, deviceByte, transferByte, selects, commanded, writeBlock, readBlock, operationsOf};
+ghost use Rattle.rules.specs.Operations.{Operation, Poll, Transfer, coded, code, codes, only, deviceByte, transferByte, commanded, writeBlock, readBlock, operationsOf};
 use rules::Direction;
+use rules::Lun;
 
 // How a block is judged: not recognised; recognised, with less room than its operations need; or made, and how many they are.
 pub enum Judgement {
@@ -114,7 +115,7 @@ fn is_recognised(block: &[u8], size: u8, expected: u32, direction: Direction, si
 
 fn count(block: &[u8], expected: u32) -> u8
     requires { ⌜ length (now block) ≡ 16 ⌝ }
-    ensures { λ r. ⌜ ((d : Direction) → r ≡ length (operationsOf (now (block .entry)) expected d)) ⌝ }
+    ensures { λ r. ⌜ ((u : Lun) (d : Direction) → r ≡ length (operationsOf u (now (block .entry)) expected d)) ⌝ }
 {
     let action = block[ACTION];
     let selection = block[SELECTION];
@@ -140,10 +141,10 @@ fn put(operations: &mut [u16], at: usize, on: bool, kind: u8, operand: u8) -> us
 }
 
 // `device` is byte 11.
-fn select_byte(action: u8, selection: u8, device: u8) -> u8
-    ensures { λ r. ⌜ r ≡ deviceByte action selection device ⌝ }
+fn select_byte(lun: Lun, action: u8, selection: u8, device: u8) -> u8
+    ensures { λ r. ⌜ r ≡ deviceByte lun action selection device ⌝ }
 {
-    let own = if_set(action, DEV_OVERRIDE, bit(device, 4), 0);
+    let own = if_set(action, DEV_OVERRIDE, bit(device, 4), lun.number());
     let byte = if_set(selection, DEVICE, device, DEVICE_ONES);
     byte - 16 * bit(byte, 4) + 16 * own
 }
@@ -165,14 +166,6 @@ fn put_poll(action: u8, operations: &mut [u16]) -> usize
 {
     let on = !is_set(action, POLL_ALT_STAT_OVERRIDE);
     put(operations, 0, on, POLL, 0)
-}
-
-fn put_select(action: u8, selection: u8, block: &[u8], operations: &mut [u16], at: usize) -> usize
-    requires { ⌜ (length (now block) ≡ 16) × (action ≡ byte 2 (now block)) × (selection ≡ byte 3 (now block)) × FitsOperations (now operations) at (selects (now block)) ⌝ }
-    ensures { λ r. ⌜ PutOperations (now (operations .entry)) at (selects (now (block .entry))) (now (operations .exit)) r ⌝ }
-{
-    let operand = select_byte(action, selection, block[11]);
-    put(operations, at, true, SELECT, operand)
 }
 
 // Transfer, if L > 0.
@@ -230,21 +223,29 @@ fn put_registers(
 }
 
 // Select, then write 7 if selected. With action bit 1 set, the select follows the place of write 7 instead.
-fn put_command(action: u8, selection: u8, block: &[u8], operations: &mut [u16], at: usize) -> usize
-    requires { ⌜ (length (now block) ≡ 16) × (action ≡ byte 2 (now block)) × (selection ≡ byte 3 (now block)) × FitsOperations (now operations) at (commanded (now block)) ⌝ }
-    ensures { λ r. ⌜ PutOperations (now (operations .entry)) at (commanded (now (block .entry))) (now (operations .exit)) r ⌝ }
+fn put_command(
+    select: u8,
+    action: u8,
+    selection: u8,
+    block: &[u8],
+    operations: &mut [u16],
+    at: usize,
+) -> usize
+    requires { ⌜ (length (now block) ≡ 16) × (action ≡ byte 2 (now block)) × (selection ≡ byte 3 (now block)) × FitsOperations (now operations) at (commanded select (now block)) ⌝ }
+    ensures { λ r. ⌜ PutOperations (now (operations .entry)) at (commanded select (now (block .entry))) (now (operations .exit)) r ⌝ }
 {
     if is_set(action, DEVICE_SELECTION_OVERRIDE) {
         let next = put_register(selection, block, true, COMMAND, operations, at);
-        put_select(action, selection, block, operations, next)
+        put(operations, next, true, SELECT, select)
     } else {
-        let next = put_select(action, selection, block, operations, at);
+        let next = put(operations, at, true, SELECT, select);
         put_register(selection, block, true, COMMAND, operations, next)
     }
 }
 
 // Action bit 0 clear: poll; writes of selected 0 to 5; select and write 7; transfer; read 7.
 fn make_writes(
+    select: u8,
     action: u8,
     selection: u8,
     block: &[u8],
@@ -252,44 +253,59 @@ fn make_writes(
     direction: Direction,
     operations: &mut [u16],
 ) -> usize
-    requires { ⌜ (length (now block) ≡ 16) × (action ≡ byte 2 (now block)) × (selection ≡ byte 3 (now block)) × FitsOperations (now operations) 0 (writeBlock (now block) expected direction) ⌝ }
-    ensures { λ r. ⌜ PutOperations (now (operations .entry)) 0 (writeBlock (now (block .entry)) expected direction) (now (operations .exit)) r ⌝ }
+    requires { ⌜ (length (now block) ≡ 16) × (action ≡ byte 2 (now block)) × (selection ≡ byte 3 (now block)) × FitsOperations (now operations) 0 (writeBlock select (now block) expected direction) ⌝ }
+    ensures { λ r. ⌜ PutOperations (now (operations .entry)) 0 (writeBlock select (now (block .entry)) expected direction) (now (operations .exit)) r ⌝ }
 {
     let at = put_poll(action, operations);
     let at = put_registers(selection, block, true, 6, operations, at);
-    let at = put_command(action, selection, block, operations, at);
+    let at = put_command(select, action, selection, block, operations, at);
     let at = put_transfer(action, expected, direction, operations, at);
     put(operations, at, true, READ + COMMAND, 0)
 }
 
 // Action bit 0 set: poll, select, reads of selected 0 to 7.
-fn make_reads(action: u8, selection: u8, block: &[u8], operations: &mut [u16]) -> usize
-    requires { ⌜ (length (now block) ≡ 16) × (action ≡ byte 2 (now block)) × (selection ≡ byte 3 (now block)) × FitsOperations (now operations) 0 (readBlock (now block)) ⌝ }
-    ensures { λ r. ⌜ PutOperations (now (operations .entry)) 0 (readBlock (now (block .entry))) (now (operations .exit)) r ⌝ }
+fn make_reads(select: u8, action: u8, selection: u8, block: &[u8], operations: &mut [u16]) -> usize
+    requires { ⌜ (length (now block) ≡ 16) × (action ≡ byte 2 (now block)) × (selection ≡ byte 3 (now block)) × FitsOperations (now operations) 0 (readBlock select (now block)) ⌝ }
+    ensures { λ r. ⌜ PutOperations (now (operations .entry)) 0 (readBlock select (now (block .entry))) (now (operations .exit)) r ⌝ }
 {
     let at = put_poll(action, operations);
-    let at = put_select(action, selection, block, operations, at);
+    let at = put(operations, at, true, SELECT, select);
     put_registers(selection, block, false, 8, operations, at)
 }
 
 // The action and the selection are read once: what is stored in the row cannot change them.
-fn make(block: &[u8], expected: u32, direction: Direction, operations: &mut [u16]) -> usize
-    requires { ⌜ (length (now block) ≡ 16) × (length (operationsOf (now block) expected direction) ≤ length (now operations)) ⌝ }
-    ensures { λ r. ⌜ (r ≡ length (operationsOf (now (block .entry)) expected direction)) × (now (operations .exit) ≡ laid (codes (operationsOf (now (block .entry)) expected direction)) (now (operations .entry))) ⌝ }
+fn make(
+    lun: Lun,
+    block: &[u8],
+    expected: u32,
+    direction: Direction,
+    operations: &mut [u16],
+) -> usize
+    requires { ⌜ (length (now block) ≡ 16) × (length (operationsOf lun (now block) expected direction) ≤ length (now operations)) ⌝ }
+    ensures { λ r. ⌜ (r ≡ length (operationsOf lun (now (block .entry)) expected direction)) × (now (operations .exit) ≡ laid (codes (operationsOf lun (now (block .entry)) expected direction)) (now (operations .entry))) ⌝ }
 {
     let action = block[ACTION];
     let selection = block[SELECTION];
+    let select = select_byte(lun, action, selection, block[11]);
     if is_set(action, TASK_FILE_READ) {
-        make_reads(action, selection, block, operations)
+        make_reads(select, action, selection, block, operations)
     } else {
-        make_writes(action, selection, block, expected, direction, operations)
+        make_writes(
+            select,
+            action,
+            selection,
+            block,
+            expected,
+            direction,
+            operations,
+        )
     }
 }
 
 // There is less room than the operations need. A row with room for the most that a block makes is not counted for.
 fn is_short(block: &[u8], expected: u32, room: usize) -> bool
     requires { ⌜ length (now block) ≡ 16 ⌝ }
-    ensures { λ r. ⌜ ((d : Direction) → r ≡ ltb room (length (operationsOf (now (block .entry)) expected d))) ⌝ }
+    ensures { λ r. ⌜ ((u : Lun) (d : Direction) → r ≡ ltb room (length (operationsOf u (now (block .entry)) expected d))) ⌝ }
 {
     if room >= MOST {
         return false;
@@ -303,10 +319,11 @@ pub fn judge(
     size: u8,
     expected: u32,
     direction: Direction,
+    lun: Lun,
     signature: u8,
     operations: &mut [u16],
 ) -> Judgement
-    ensures { λ j. ⌜ judgement j (now (operations .exit)) ≡ judged signature (now (block .entry)) size expected direction (now (operations .entry)) ⌝ }
+    ensures { λ j. ⌜ judgement j (now (operations .exit)) ≡ judged lun signature (now (block .entry)) size expected direction (now (operations .entry)) ⌝ }
 {
     if block.len() != 16 {
         return Judgement::Unrecognised;
@@ -317,5 +334,5 @@ pub fn judge(
     if is_short(block, expected, operations.len()) {
         return Judgement::NoRoom;
     }
-    Judgement::Made(make(block, expected, direction, operations) as u16)
+    Judgement::Made(make(lun, block, expected, direction, operations) as u16)
 }

@@ -35,7 +35,7 @@ returns c =
     let known = c .before .before .before .before .before in
     let block = known .before .args .block .now in
     let fits = known .shared-slice-known .given 3 .fits in
-    λ d. rw (c .before .before .bit .ensures) (sym (count-read block _ d fits (sym (c .before .is-set .ensures) ∙ c .if1 .taken)))
+    λ u d. rw (c .before .before .bit .ensures) (sym (count-read u block _ d fits (sym (c .before .is-set .ensures) ∙ c .if1 .taken)))
 
 add-result : tie.Need-add-result
 add-result c = omega (arith, ones-le 8 _ (c .before .before .before .before .before .shared-slice-known .given 3 .fits))
@@ -59,8 +59,8 @@ returns-2 c =
     let known = c .before .before .before .before .before .before in
     let block = known .before .args .block .now in
     let fits = known .shared-slice-known .given 3 .fits in
-    λ d. rw (c .bit2 .ensures, c .before .before .before .bit .ensures)
-    (sym (count-write block _ d fits (sym (c .before .before .is-set .ensures) ∙ c .before .if1 .left)))
+    λ u d. rw (c .bit2 .ensures, c .before .before .before .bit .ensures)
+    (sym (count-write u block _ d fits (sym (c .before .before .is-set .ensures) ∙ c .before .if1 .left)))
 
 pub count-spec : {M : Type 1} → statement M
 count-spec =

@@ -12,7 +12,7 @@ use Rattle.passthrough.proofs.is_short.Tie as tie
 returns : tie.Need-returns
 returns c =
     let at = c .before .before .args in
-    λ d. sym (le-ltb (at .room) (length (operationsOf (at .block .now) (at .expected) d)) (omega (arith, most (at .block .now) (at .expected) d)))
+    λ u d. sym (le-ltb (at .room) (length (operationsOf u (at .block .now) (at .expected) d)) (omega (arith, most u (at .block .now) (at .expected) d)))
 
 count-requires : tie.Need-count-requires
 count-requires c κs = search needs
@@ -21,7 +21,7 @@ cast-result : tie.Need-cast-result
 cast-result c = search needs
 
 returns-2 : tie.Need-returns-2
-returns-2 c = λ d. rw (← c .count .ensures d)
+returns-2 c = λ u d. rw (← c .count .ensures u d)
 
 pub is-short-spec : {M : Type 1} → statement M
 is-short-spec = tie.close (tie.spec returns count-requires cast-result returns-2)

@@ -10,25 +10,25 @@ use Rattle.passthrough.proofs.make_writes.Tie as tie
 put-poll-requires : tie.Need-put-poll-requires
 put-poll-requires c κs =
     let start = c .before .before .before in
-    rw (start .pre .1) (omega (arith, length-written (start .args .block .now) (start .args .expected) (start .args .direction)))
+    rw (start .pre .1) (omega (arith, length-written (start .args .select) (start .args .block .now) (start .args .expected) (start .args .direction)))
 
 put-registers-requires : tie.Need-put-registers-requires
 put-registers-requires c κs =
     let start = c .before .before .before .before .before .before .before in
     let polled = rw (start .pre .1) at (c .before .before .before .put-poll .ensures .moved) in
-    (start .pre .0, start .pre .2, omega arith, omega (arith, polled, length-written (start .args .block .now) (start .args .expected) (start .args .direction)))
+    (start .pre .0, start .pre .2, omega arith, omega (arith, polled, length-written (start .args .select) (start .args .block .now) (start .args .expected) (start .args .direction)))
 
 put-command-requires : tie.Need-put-command-requires
 put-command-requires c κs =
     let start = c .before .before .before .before .before .before .before .before .before .before .before in
     let polled = rw (start .pre .1) at (c .before .before .before .before .before .before .before .put-poll .ensures .moved) in
-    (start .pre .0, start .pre .1, start .pre .2, omega (arith, polled, length-written (start .args .block .now) (start .args .expected) (start .args .direction)))
+    (start .pre .0, start .pre .1, start .pre .2, omega (arith, polled, length-written (start .args .select) (start .args .block .now) (start .args .expected) (start .args .direction)))
 
 put-transfer-requires : tie.Need-put-transfer-requires
 put-transfer-requires c κs =
     let start = c .before .before .before .before .before .before .before .before .before .before .before .before .before .before .before in
     let polled = rw (start .pre .1) at (c .before .before .before .before .before .before .before .before .before .before .before .put-poll .ensures .moved) in
-    rw (start .pre .1) (omega (arith, polled, length-written (start .args .block .now) (start .args .expected) (start .args .direction)))
+    rw (start .pre .1) (omega (arith, polled, length-written (start .args .select) (start .args .block .now) (start .args .expected) (start .args .direction)))
 
 add-put : tie.Need-add-put
 add-put c = search needs
@@ -38,7 +38,7 @@ put-requires c κs =
     let start = c .before .before .before .before .before .before .before .before .before .before .before .before .before .before .before .before .before .before .before in
     let polled = rw (start .pre .1) at (c .before .before .before .before .before .before .before .before .before .before .before .before .before .before .before .put-poll .ensures .moved) in
     let transferred = rw (start .pre .1) at (c .before .before .before .put-transfer .ensures .moved) in
-    λ e. omega (arith, polled, transferred, length-written (start .args .block .now) (start .args .expected) (start .args .direction))
+    λ e. omega (arith, polled, transferred, length-written (start .args .select) (start .args .block .now) (start .args .expected) (start .args .direction))
 
 same-length : tie.Need-same-length
 same-length c = search needs

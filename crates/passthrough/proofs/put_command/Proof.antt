@@ -1,10 +1,10 @@
 -- `passthrough::put_command` meets its contract.
 use mathlib.Core.List.{[], _∷_}
-use mathlib.Core.Path.{sym, _∙_}
+use mathlib.Core.Path.{refl, sym, _∙_}
 use native.Mathlib.Omega.{arith}
 use lib.ListN.{length-append}
 use borrow.Author.Needs.{needs}
-use Rattle.rules.specs.Operations.{selects, writes}
+use Rattle.rules.specs.Operations.{Select, writes}
 use Rattle.passthrough.proofs.Rows.{put-put}
 use Rattle.passthrough.proofs.put_command.Statement.{statement}
 use Rattle.passthrough.proofs.put_command.Tie as tie
@@ -18,23 +18,23 @@ put-register-requires c κs =
     let start = tested .before .before .before in
     let b = start .args .block .now in
     let room = rw (sym (rw (start .pre .1) at (tested .is-set .ensures)) ∙ c .before .if1 .taken) at (start .pre .3) in
-    (start .pre .0, start .pre .2, omega arith, omega (arith, room, length-append (writes b (7 ∷ [])) (selects b)))
+    (start .pre .0, start .pre .2, omega arith, omega (arith, room, length-append (writes b (7 ∷ [])) (Select (start .args .select) ∷ [])))
 
-put-select-requires : tie.Need-put-select-requires
-put-select-requires c κs =
+put-requires : tie.Need-put-requires
+put-requires c κs =
     let tested = c .before .before .before .before .before .before in
     let start = tested .before .before .before in
     let b = start .args .block .now in
     let room = rw (sym (rw (start .pre .1) at (tested .is-set .ensures)) ∙ c .before .before .before .before .before .if1 .taken) at (start .pre .3) in
-    (start .pre .0, start .pre .1, start .pre .2, omega (arith, room, length-append (writes b (7 ∷ [])) (selects b)))
+    λ on. omega (arith, room, c .before .before .before .put-register .ensures .moved, length-append (writes b (7 ∷ [])) (Select (start .args .select) ∷ []))
 
-put-select-requires-2 : tie.Need-put-select-requires-2
-put-select-requires-2 c κs =
+put-requires-2 : tie.Need-put-requires-2
+put-requires-2 c κs =
     let tested = c .before .before in
     let start = tested .before .before .before in
     let b = start .args .block .now in
     let room = rw (sym (rw (start .pre .1) at (tested .is-set .ensures)) ∙ c .before .if1 .left) at (start .pre .3) in
-    (start .pre .0, start .pre .1, start .pre .2, omega (arith, room, length-append (selects b) (writes b (7 ∷ []))))
+    λ on. omega (arith, room, length-append (Select (start .args .select) ∷ []) (writes b (7 ∷ [])))
 
 put-register-requires-2 : tie.Need-put-register-requires-2
 put-register-requires-2 c κs =
@@ -42,7 +42,8 @@ put-register-requires-2 c κs =
     let start = tested .before .before .before in
     let b = start .args .block .now in
     let room = rw (sym (rw (start .pre .1) at (tested .is-set .ensures)) ∙ c .before .before .before .before .before .if1 .left) at (start .pre .3) in
-    (start .pre .0, start .pre .2, omega arith, omega (arith, room, length-append (selects b) (writes b (7 ∷ []))))
+    let selected = c .before .before .before .put2 .ensures (Select (start .args .select)) refl .moved in
+    (start .pre .0, start .pre .2, omega arith, omega (arith, room, selected, length-append (Select (start .args .select) ∷ []) (writes b (7 ∷ []))))
 
 same-length : tie.Need-same-length
 same-length c = search needs
@@ -50,9 +51,10 @@ same-length c = search needs
 returns : tie.Need-returns
 returns c =
     let branch = c .before .before .before .before .before .before .before .before in
-    let tested = rw (branch .before .before .before .before .pre .1) at (branch .before .is-set .ensures) in
+    let start = branch .before .before .before .before in
+    let tested = rw (start .pre .1) at (branch .before .is-set .ensures) in
     rw (sym tested ∙ branch .if1 .taken)
-    (put-put _ _ (c .before .before .before .before .before .before .put-register .ensures) (c .before .before .put-select .ensures))
+    (put-put _ _ (c .before .before .before .before .before .before .put-register .ensures) (c .before .before .put .ensures (Select (start .args .select)) refl))
 
 same-length-2 : tie.Need-same-length-2
 same-length-2 c = search needs
@@ -60,9 +62,10 @@ same-length-2 c = search needs
 returns-2 : tie.Need-returns-2
 returns-2 c =
     let branch = c .before .before .before .before .before .before .before .before in
-    let tested = rw (branch .before .before .before .before .pre .1) at (branch .before .is-set .ensures) in
+    let start = branch .before .before .before .before in
+    let tested = rw (start .pre .1) at (branch .before .is-set .ensures) in
     rw (sym tested ∙ branch .if1 .left)
-    (put-put _ _ (c .before .before .before .before .before .before .put-select2 .ensures) (c .before .before .put-register2 .ensures))
+    (put-put _ _ (c .before .before .before .before .before .before .put2 .ensures (Select (start .args .select)) refl) (c .before .before .put-register2 .ensures))
 
 pub put-command-spec : {M : Type 1} → statement M
 put-command-spec =
@@ -70,8 +73,8 @@ put-command-spec =
     (tie.spec
     is-set-requires
     put-register-requires
-    put-select-requires
-    put-select-requires-2
+    put-requires
+    put-requires-2
     put-register-requires-2
     same-length
     returns

@@ -2,12 +2,15 @@
 use native.Mathlib.Omega.{arith}
 use borrow.Author.Needs.{needs}
 use Rattle.rules.specs.Words.{bit}
-use Rattle.passthrough.proofs.Counts.{cond-most}
+use Rattle.rules.proofs.Demands.Operations.{own-most}
 use Rattle.passthrough.proofs.select_byte.Statement.{statement}
 use Rattle.passthrough.proofs.select_byte.Tie as tie
 
 bit-requires : tie.Need-bit-requires
 bit-requires c κs = search needs
+
+number-requires : tie.Need-number-requires
+number-requires c κs = search needs
 
 if-set-requires : tie.Need-if-set-requires
 if-set-requires c κs = search needs
@@ -26,22 +29,32 @@ sub-result c = search needs
 
 mul-result-2 : tie.Need-mul-result-2
 mul-result-2 c =
-    let own = cond-most (bit 5 (c .before .before .before .before .args .action)) (c .before .before .before .bit .result) in
-    omega (arith, rw (← c .before .before .if-set .ensures) at own)
+    let at = c .before .before .before .before .before .args in
+    let own = own-most (bit 5 (at .action)) (at .device) (at .lun) in
+    omega (arith, rw (← c .before .before .before .before .bit .ensures, ← c .before .before .before .number .ensures, ← c .before .before .if-set .ensures) at own)
 
 add-result : tie.Need-add-result
 add-result c =
-    let own = cond-most (bit 5 (c .before .before .before .before .args .action)) (c .before .before .before .bit .result) in
-    omega (arith, rw (← c .before .before .if-set .ensures) at own)
+    let at = c .before .before .before .before .before .args in
+    let own = own-most (bit 5 (at .action)) (at .device) (at .lun) in
+    omega (arith, rw (← c .before .before .before .before .bit .ensures, ← c .before .before .before .number .ensures, ← c .before .before .if-set .ensures) at own)
 
 returns : tie.Need-returns
-returns c = rw (c .bit2 .ensures, c .before .if-set2 .ensures, c .before .before .if-set .ensures, c .before .before .before .bit .ensures)
+returns c =
+    rw (
+      c .bit2 .ensures,
+      c .before .if-set2 .ensures,
+      c .before .before .if-set .ensures,
+      c .before .before .before .number .ensures,
+      c .before .before .before .before .bit .ensures,
+    )
 
 pub select-byte-spec : {M : Type 1} → statement M
 select-byte-spec =
     tie.close
     (tie.spec
     bit-requires
+    number-requires
     if-set-requires
     if-set-requires-2
     bit-requires-2
