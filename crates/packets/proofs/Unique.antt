@@ -21,11 +21,11 @@ unawaited κs a r r' left left' p q = (only p q, refl)
 -- of a bridge that awaits a packet, bytes that hold the signature and no memory
 pub awaited : OneOutcome Awaited.Kinds.ps Awaited.Kinds.r Awaited.Reads.Post
 awaited κs a r r' left left' p q =
-    let b : Bridge = configuring true (powerOn (docked false Of256)) in
-    let awaits : Awaits b = record { configured = refl; runs = refl; awaits = refl } in
-    let held : List ℕ = 0 ∷ 0 ∷ 0 ∷ 0 ∷ a .0 ∷ [] in
+    let b : Bridge = configuring true (powerOn (docked false Of256 (a .0))) in
+    let awaits : Awaits (a .0) b = record { holds = refl; configured = refl; runs = refl; awaits = refl } in
+    let held : List ℕ = 0 ∷ 0 ∷ 0 ∷ 0 ∷ a .1 .0 ∷ [] in
     let same = only (p b awaits held [] refl) (q b awaits held [] refl) in
-    (ap outcomeOf same, ap (λ (l : Left). (tt, (tt, (l .room, tt)))) same)
+    (ap outcomeOf same, ap (λ (l : Left). (tt, (tt, (tt, (l .room, tt))))) same)
 
 pub packet : OneOutcome Packet.Kinds.ps Packet.Kinds.r Packet.Reads.Post
 packet κs a r r' left left' p q =

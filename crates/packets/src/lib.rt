@@ -1,13 +1,15 @@
 // Command packets: whether one is awaited, its validity, meaning and direction, and what it changes.
 ghost use mathlib.Core.Path.{_≡_};
-ghost use mathlib.Core.Bool.{true, false};
+ghost use mathlib.Core.Bool.{false};
+ghost use lib.Dec.{ltb};
 ghost use lib.ListN.{length};
-ghost use Rattle.packets.specs.Awaited.{Awaits, takenAs};
+ghost use Rattle.packets.specs.Awaited.{Awaits, meaningOf, takenAs};
 ghost use Rattle.outcomes.specs.Outcomes.{outcome, AnswersOf};
 ghost use Rattle.rules.specs.Words.{first};
+ghost use Rattle.rules.specs.Held.{driveCount};
 ghost use Rattle.rules.specs.Answers.{unawaitedChecks};
 ghost use Rattle.rules.specs.Step.{Packet};
-ghost use Rattle.rules.specs.Packets.{commandLayout, commandOf, valid, meaningful, directionOf, commandTaken};
+ghost use Rattle.rules.specs.Packets.{commandLayout, commandOf, valid, sensible, meaningful, directionOf, begins, commandTaken};
 use outcomes::Outcome;
 use outcomes::done;
 use outcomes::refused;
@@ -16,9 +18,17 @@ use rules::Bridge;
 use rules::Change;
 use rules::CommandPacket;
 use rules::Direction;
+use rules::Drives;
+use rules::Lun;
 use rules::Phase;
 use rules::StatusPacket;
 use rules::answers;
+
+// What a packet means: nothing, or a command for a drive.
+enum Meaning {
+    None,
+    For(Lun),
+}
 
 fn is_valid(packet: &[u8]) -> bool
     ensures { λ r. ⌜ r ≡ valid (now (packet .entry)) ⌝ }
@@ -42,14 +52,35 @@ fn command_of(packet: &[u8]) -> CommandPacket
     }
 }
 
-// The whole LUN byte counts: 0x10 is not 0.
-fn is_meaningful(c: CommandPacket) -> bool
-    ensures { λ r. ⌜ r ≡ meaningful c ⌝ }
+// What a packet says beside its LUN is meaningful.
+fn is_sensible(c: CommandPacket) -> bool
+    ensures { λ r. ⌜ r ≡ sensible c ⌝ }
 {
-    ((c.flags == 0x00) | (c.flags == 0x80))
-        && (c.lun == 0)
-        && (1 <= c.block_length)
-        && (c.block_length <= 16)
+    ((c.flags == 0x00) | (c.flags == 0x80)) && (1 <= c.block_length) && (c.block_length <= 16)
+}
+
+// The drive of a LUN byte, all of which counts: 0x10 is not 0, and 0x11 is not 1.
+fn drive_of(drives: Drives, lun: u8) -> Meaning
+    ensures { λ r. ⌜ r ≡ meaningOf (ltb lun (driveCount drives)) lun ⌝ }
+{
+    match lun {
+        0 => Meaning::For(Lun::Lun0),
+        1 => match drives {
+            Drives::One => Meaning::None,
+            Drives::Two => Meaning::For(Lun::Lun1),
+        },
+        _ => Meaning::None,
+    }
+}
+
+// Whether a packet is meaningful, and for which drive.
+fn meaning_of(drives: Drives, c: CommandPacket) -> Meaning
+    ensures { λ r. ⌜ r ≡ meaningOf (meaningful drives c) (c .lun) ⌝ }
+{
+    if is_sensible(c) {
+        return drive_of(drives, c.lun);
+    }
+    Meaning::None
 }
 
 fn direction_of(c: CommandPacket) -> Direction
@@ -62,11 +93,12 @@ fn direction_of(c: CommandPacket) -> Direction
     }
 }
 
-fn begun(c: CommandPacket) -> Change
-    ensures { λ r. ⌜ r ≡ commandTaken true c ⌝ }
+fn begun(lun: Lun, c: CommandPacket) -> Change
+    ensures { λ r. ⌜ r ≡ begins lun c ⌝ }
 {
     Change::Begins {
         direction: direction_of(c),
+        lun: lun,
         tag: c.tag,
         length: c.length,
     }
@@ -86,13 +118,13 @@ fn failed(c: CommandPacket) -> Change
 }
 
 // What the judgement of its block makes of a meaningful packet.
-fn taken(judgement: Judgement, c: CommandPacket) -> Outcome
-    ensures { λ r. ⌜ r ≡ takenAs judgement c ⌝ }
+fn taken(judgement: Judgement, lun: Lun, c: CommandPacket) -> Outcome
+    ensures { λ r. ⌜ r ≡ takenAs judgement lun c ⌝ }
 {
     match judgement {
         Judgement::Unrecognised => done(0, failed(c)),
         Judgement::NoRoom => refused(answers::OPERATION_ROOM),
-        Judgement::Made(count) => done(count, begun(c)),
+        Judgement::Made(count) => done(count, begun(lun, c)),
     }
 }
 
@@ -106,26 +138,31 @@ fn stopped(answer: u8) -> Outcome
     }
 }
 
-// A command packet that a bridge awaits: its block is the part that starts at byte 15. `signature` is configuration byte 0x04.
-pub fn awaited(signature: u8, packet: &[u8], operations: &mut [u16]) -> Outcome
-    ensures { λ r. ⌜ ((b : Bridge) → Awaits b → AnswersOf b signature (Packet (now (packet .entry))) (now (operations .entry)) r (now (operations .exit))) ⌝ }
+// A command packet that a bridge awaits, in a dock with so many drives: its block is the part that starts at byte 15. `signature` is configuration
+// byte 0x04.
+pub fn awaited(drives: Drives, signature: u8, packet: &[u8], operations: &mut [u16]) -> Outcome
+    ensures { λ r. ⌜ ((b : Bridge) → Awaits drives b → AnswersOf b signature (Packet (now (packet .entry))) (now (operations .entry)) r (now (operations .exit))) ⌝ }
 {
     if !is_valid(packet) {
         return stopped(answers::NOT_VALID);
     }
     let c = command_of(packet);
-    if !is_meaningful(c) {
-        return stopped(answers::NOT_MEANINGFUL);
+    let meaning = meaning_of(drives, c);
+    match meaning {
+        Meaning::None => stopped(answers::NOT_MEANINGFUL),
+        Meaning::For(lun) => {
+            let judgement = passthrough::judge(
+                &packet[15..CommandPacket::LENGTH],
+                c.block_length,
+                c.length,
+                direction_of(c),
+                lun,
+                signature,
+                operations,
+            );
+            taken(judgement, lun, c)
+        }
     }
-    let judgement = passthrough::judge(
-        &packet[15..CommandPacket::LENGTH],
-        c.block_length,
-        c.length,
-        direction_of(c),
-        signature,
-        operations,
-    );
-    taken(judgement, c)
 }
 
 // The answer to a packet that is not awaited, whatever it is; else 0.
@@ -143,6 +180,7 @@ pub fn unawaited(b: Bridge) -> u8
         Phase::Awaiting => answers::DONE,
         Phase::Busy {
             direction: _,
+            lun: _,
             tag: _,
             length: _,
         }
@@ -162,5 +200,7 @@ pub fn packet(b: Bridge, signature: u8, packet: &[u8], operations: &mut [u16]) -
     if answer != answers::DONE {
         return refused(answer);
     }
-    awaited(signature, packet, operations)
+    let dock = b.dock;
+    let drives = dock.drives;
+    awaited(drives, signature, packet, operations)
 }

@@ -14,22 +14,22 @@ stopped-requires c κs = search needs
 returns : tie.Need-returns
 returns c =
     let at = c .before .before .before .before .before .args in
-    λ b a. rw (c .stopped .ensures) (not-valid b (at .signature) (at .packet .now) (at .operations .now) a (c .before .before .is-valid .ensures) (c .before .if1 .taken))
+    λ b a. rw (c .stopped .ensures) (not-valid (at .drives) b (at .signature) (at .packet .now) (at .operations .now) a (c .before .before .is-valid .ensures) (c .before .if1 .taken))
 
 command-of-requires : tie.Need-command-of-requires
 command-of-requires c κs = thirty-one (c .before .before .before .before .args .packet .now) (c .before .is-valid .ensures) (c .if1 .left)
 
-is-meaningful-requires : tie.Need-is-meaningful-requires
-is-meaningful-requires c κs = search needs
+meaning-of-requires : tie.Need-meaning-of-requires
+meaning-of-requires c κs = search needs
+
+enum-told : tie.Need-enum-told
+enum-told c = search needs
 
 stopped-requires-2 : tie.Need-stopped-requires-2
 stopped-requires-2 c κs = search needs
 
-returns-2 : tie.Need-returns-2
-returns-2 c =
-    let at = c .before .before .before .before .before .before .before .before .args in
-    λ b a. rw (c .stopped2 .ensures)
-    (not-meaningful b (at .signature) (at .packet .now) (at .operations .now) a (c .before .before .before .before .before .is-valid .ensures) (c .before .before .before .before .if1 .left) (c .before .before .before .command-of .ensures) (c .before .before .is-meaningful .ensures) (c .before .if2 .taken))
+enum-known-meaning : tie.Need-enum-known-meaning
+enum-known-meaning c = search needs
 
 sub-judge : tie.Need-sub-judge
 sub-judge c = search needs
@@ -38,7 +38,9 @@ part-judge-start : tie.Need-part-judge-start
 part-judge-start c = search needs
 
 part-judge-end : tie.Need-part-judge-end
-part-judge-end c = omega (arith, thirty-one (c .before .before .before .before .before .before .before .args .packet .now) (c .before .before .before .before .is-valid .ensures) (c .before .before .before .if1 .left))
+part-judge-end c =
+    let tested = c .before .before .before .before .before in
+    omega (arith, thirty-one (tested .before .before .before .before .args .packet .now) (tested .before .is-valid .ensures) (tested .if1 .left))
 
 direction-of-requires : tie.Need-direction-of-requires
 direction-of-requires c κs = search needs
@@ -49,16 +51,28 @@ judge-requires c κs = search needs
 taken-requires : tie.Need-taken-requires
 taken-requires c κs = search needs
 
+returns-2 : tie.Need-returns-2
+returns-2 c =
+    let meant = c .before .before .before in
+    let tested = meant .before .before in
+    let at = tested .before .before .before .before .args in
+    λ b a. rw (c .stopped2 .ensures)
+    (not-meaningful (at .drives) b (at .signature) (at .packet .now) (at .operations .now) a (tested .before .is-valid .ensures) (tested .if1 .left) (meant .before .command-of .ensures) (meant .meaning-of .ensures) (c .before .enum-told .given .1))
+
 same-length : tie.Need-same-length
 same-length c = search needs
 
 returns-3 : tie.Need-returns-3
 returns-3 c =
-    let at = c .before .before .before .before .before .before .before .before .before .before .before .before .before .before .args in
+    let judged = c .before .before .before in
+    let told = judged .before .before .before .before .before in
+    let meant = told .before .before in
+    let tested = meant .before .before in
+    let at = tested .before .before .before .before .args in
     let p = at .packet .now in
-    let part = block-part p (thirty-one p (c .before .before .before .before .before .before .before .before .before .before .before .is-valid .ensures) (c .before .before .before .before .before .before .before .before .before .before .if1 .left)) in
+    let part = block-part p (thirty-one p (tested .before .is-valid .ensures) (tested .if1 .left)) in
     λ b a. rw (c .taken .ensures)
-    (taken-so b (at .signature) p (at .operations .now) a (c .before .before .before .before .before .before .before .before .before .before .before .is-valid .ensures) (c .before .before .before .before .before .before .before .before .before .before .if1 .left) (c .before .before .before .before .before .before .before .before .before .command-of .ensures) (c .before .before .before .before .before .before .before .before .is-meaningful .ensures) (c .before .before .before .before .before .before .before .if2 .left) part (c .before .before .before .before .before .direction-of .ensures) (c .before .before .before .judge .ensures))
+    (taken-so (at .drives) b (at .signature) p (at .operations .now) a (tested .before .is-valid .ensures) (tested .if1 .left) (meant .before .command-of .ensures) (meant .meaning-of .ensures) (told .meaning .given .1) part (judged .before .before .direction-of .ensures) (judged .judge .ensures))
 
 pub awaited-spec : {M : Type 1} → statement M
 awaited-spec =
@@ -68,14 +82,16 @@ awaited-spec =
     stopped-requires
     returns
     command-of-requires
-    is-meaningful-requires
+    meaning-of-requires
+    enum-told
     stopped-requires-2
-    returns-2
+    enum-known-meaning
     sub-judge
     part-judge-start
     part-judge-end
     direction-of-requires
     judge-requires
     taken-requires
+    returns-2
     same-length
     returns-3)

@@ -27,9 +27,9 @@ same-length c = search needs
 
 returns-2 : tie.Need-returns-2
 returns-2 c =
-    let b = c .before .before .before .before .before .before .before .before .args .b in
-    let answer = c .before .before .before .before .before .unawaited in
-    c .before .before .awaited .ensures b (awaits b (sym (answer .ensures) ∙ c .before .before .before .before .if1 .left))
+    let tested = c .before .before .before .before .before in
+    let b = tested .before .before .before .before .args .b in
+    c .before .before .awaited .ensures b (awaits b (sym (tested .before .unawaited .ensures) ∙ tested .if1 .left))
 
 pub packet-spec : {M : Type 1} → statement M
 packet-spec =
