@@ -10,6 +10,9 @@ use Rattle.rules.specs.declared.Change.{Change}
 use Rattle.rules.specs.declared.Change.the-variants.{Nothing, Sets, Awaits, Resets, Drops, Begins, Finishes, Stops, Notes, Clears, Ends}
 use Rattle.rules.specs.declared.Direction.the-variants.{Out, In}
 use Rattle.rules.specs.declared.Dock.{Dock}
+use Rattle.rules.specs.declared.Drives.{Drives}
+use Rattle.rules.specs.declared.Drives.the-variants.{One, Two}
+use Rattle.rules.specs.declared.Lun.the-variants.{Lun0, Lun1}
 use Rattle.rules.specs.declared.PageSize.{PageSize}
 use Rattle.rules.specs.declared.PageSize.the-variants.{Of32, Of64, Of128, Of256}
 use Rattle.rules.specs.Words.{over}
@@ -26,22 +29,30 @@ use Rattle.image.specs.Image.{bytesOf, decode, heldOf, worldOf, dockByte
 abbrev On : Dock → List ℕ → List ℕ → Type 0
 On dock memory bytes = worldOf (bytes ++ replicate 13 0 ++ dockByte dock ∷ replicate 32 0) memory ≡ world (powerOn dock) bytes memory
 
-on-bytes : (powered : Bool) (page : PageSize) (memory bytes : List ℕ) → On (docked powered page) memory (row 0 16 bytes)
+on-bytes : (powered : Bool) (page : PageSize) (drives : Drives) (memory bytes : List ℕ) → On (docked powered page drives) memory (row 0 16 bytes)
 unfolding kept
-on-bytes true Of32 memory bytes = refl
-on-bytes true Of64 memory bytes = refl
-on-bytes true Of128 memory bytes = refl
-on-bytes true Of256 memory bytes = refl
-on-bytes false Of32 memory bytes = refl
-on-bytes false Of64 memory bytes = refl
-on-bytes false Of128 memory bytes = refl
-on-bytes false Of256 memory bytes = refl
+on-bytes true Of32 One memory bytes = refl
+on-bytes true Of64 One memory bytes = refl
+on-bytes true Of128 One memory bytes = refl
+on-bytes true Of256 One memory bytes = refl
+on-bytes false Of32 One memory bytes = refl
+on-bytes false Of64 One memory bytes = refl
+on-bytes false Of128 One memory bytes = refl
+on-bytes false Of256 One memory bytes = refl
+on-bytes true Of32 Two memory bytes = refl
+on-bytes true Of64 Two memory bytes = refl
+on-bytes true Of128 Two memory bytes = refl
+on-bytes true Of256 Two memory bytes = refl
+on-bytes false Of32 Two memory bytes = refl
+on-bytes false Of64 Two memory bytes = refl
+on-bytes false Of128 Two memory bytes = refl
+on-bytes false Of256 Two memory bytes = refl
 
 pub powers-on : PowersOn
 powers-on start memory =
     let bytes : List ℕ = startBytes start in
     by-bytes 16 bytes (over-length powerOnBytes 2 (start .settings)) (On (start .dock) memory)
-    (on-bytes (start .dock .«bus_powered») (start .dock .page) memory bytes)
+    (on-bytes (start .dock .«bus_powered») (start .dock .page) (start .dock .drives) memory bytes)
 
 pub powered-length : (start : Start) → length (powered start) ≡ 62
 powered-length start =
@@ -70,8 +81,10 @@ module _ (b i : List ℕ) where
   put-bytes Awaits z memory = refl
   put-bytes Resets z memory = refl
   put-bytes Drops z memory = refl
-  put-bytes (Begins Out tag l) z memory = rw (four-bytes tag (z .0), four-bytes l (z .1))
-  put-bytes (Begins In tag l) z memory = rw (four-bytes tag (z .0), four-bytes l (z .1))
+  put-bytes (Begins Out Lun0 tag l) z memory = rw (four-bytes tag (z .0), four-bytes l (z .1))
+  put-bytes (Begins Out Lun1 tag l) z memory = rw (four-bytes tag (z .0), four-bytes l (z .1))
+  put-bytes (Begins In Lun0 tag l) z memory = rw (four-bytes tag (z .0), four-bytes l (z .1))
+  put-bytes (Begins In Lun1 tag l) z memory = rw (four-bytes tag (z .0), four-bytes l (z .1))
   put-bytes (Finishes Out true status tag residue) z memory = rw (four-bytes tag (z .0), four-bytes residue (z .1))
   put-bytes (Finishes Out false status tag residue) z memory = rw (four-bytes tag (z .0), four-bytes residue (z .1))
   put-bytes (Finishes In true status tag residue) z memory = rw (four-bytes tag (z .0), four-bytes residue (z .1))
@@ -95,7 +108,7 @@ dropped-apart bytes image n h =
     (by-bytes 62 image h (λ i. dropped (row 0 16 bytes ++ drop 16 i) ≡ row 0 16 bytes ++ drop 16 (dropped i)) refl)
 
 -- the bridge and its configuration bytes stand before what is held
-dropped-decodes : (image : List ℕ) → decode (dropped image) ≡ decode image
+pub dropped-decodes : (image : List ℕ) → decode (dropped image) ≡ decode image
 dropped-decodes image = ap (λ (r : List ℕ). decode (replicate 16 0 ++ r)) (row-set 16 14 61 0 image (omega arith))
 
 pub dropped-bytes : (image : List ℕ) → bytesOf (dropped image) ≡ bytesOf image
@@ -124,7 +137,7 @@ put-length c image h = by-bytes 62 image h (λ i. length (put c i) ≡ 62) (go c
     go Awaits = refl
     go Resets = refl
     go Drops = refl
-    go (Begins direction tag l) = refl
+    go (Begins direction lun tag l) = refl
     go (Finishes Out true status tag residue) = refl
     go (Finishes In true status tag residue) = refl
     go (Finishes direction false status tag residue) = refl

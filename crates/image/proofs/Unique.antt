@@ -7,6 +7,7 @@ use Rattle.rules.proofs.Unique.{only}
 use Rattle.image.proofs.«power_on» as PowerOn
 use Rattle.image.proofs.«power_on_with» as PowerOnWith
 use Rattle.image.proofs.«signature_of» as SignatureOf
+use Rattle.image.proofs.«drives_of» as DrivesOf
 use Rattle.image.proofs.seen as Seen
 use Rattle.image.proofs.load as Load
 use Rattle.image.proofs.held as Held
@@ -21,6 +22,9 @@ pub «power_on_with» : OneOutcome PowerOnWith.Kinds.ps PowerOnWith.Kinds.r Powe
 
 pub «signature_of» : OneOutcome SignatureOf.Kinds.ps SignatureOf.Kinds.r SignatureOf.Reads.Post
 «signature_of» κs a r r' left left' p q = (only p q, refl)
+
+pub «drives_of» : OneOutcome DrivesOf.Kinds.ps DrivesOf.Kinds.r DrivesOf.Reads.Post
+«drives_of» κs a r r' left left' p q = (only p q, refl)
 
 pub seen : OneOutcome Seen.Kinds.ps Seen.Kinds.r Seen.Reads.Post
 seen κs a r r' left left' p q = (only p q, refl)

@@ -11,12 +11,16 @@ use Rattle.rules.specs.declared.Change.the-variants.{Nothing, Sets, Awaits, Res
 use Rattle.rules.specs.declared.Direction.{Direction}
 use Rattle.rules.specs.declared.Direction.the-variants.{Out, In}
 use Rattle.rules.specs.declared.Dock.{Dock}
+use Rattle.rules.specs.declared.Drives.{Drives}
+use Rattle.rules.specs.declared.Drives.the-variants.{One, Two}
+use Rattle.rules.specs.declared.Lun.{Lun}
+use Rattle.rules.specs.declared.Lun.the-variants.{Lun0, Lun1}
 use Rattle.rules.specs.declared.PageSize.{PageSize}
 use Rattle.rules.specs.declared.PageSize.the-variants.{Of32, Of64, Of128, Of256}
 use Rattle.rules.specs.declared.Phase.{Phase}
 use Rattle.rules.specs.declared.Phase.the-variants.{Awaiting, Busy, StatusWaiting, Stopped}
 use Rattle.rules.specs.Words.{byte, long, bytes4, one, over}
-use Rattle.rules.specs.Held.{World, Start, world, holding, docked, startBytes, marks}
+use Rattle.rules.specs.Held.{World, Start, maxLun, lunNumber, world, holding, docked, startBytes, marks}
 use Rattle.rules.specs.Held.{powered as atPowerOn}
 use Rattle.rules.specs.Changes.{made, drops}
 use Rattle.rules.specs.Packets.{inward}
@@ -25,9 +29,10 @@ use Rattle.rules.specs.Demands.Sizes.{Sized}
 use Rattle.image.specs.declared.Fragments.{Fragments}
 
 -- ---- read: at 0 the configuration bytes, at 16 the tag, at 20 L or the residue; at 24, 25 and 26 a mark each, set where it is not 0: configured, bulk
--- out halted, bulk in halted; at 27 the phase, 0 awaiting, 1 busy, 2 status waiting, else stopped; at 28 its direction, its status, or whether a Mass
--- Storage Reset has come; at 29 what is fixed at power-on: the page size in its two low bits, how often 32 is doubled, and bus powered in the next; at 30 the
--- bytes that are held, and at 61 how many of them, where more than 31 says that it is too long
+-- out halted, bulk in halted; at 27 the phase, 0 awaiting, 1 busy, 2 status waiting, else stopped; at 28 its direction in bit 0 and its LUN in bit 1, its
+-- status, or whether a Mass Storage Reset has come; at 29 what is fixed at power-on: the page size in its two low bits, how often 32 is doubled, bus powered
+-- in the next, and whether there are two drives behind it; at 30 the bytes that are held, and at 61 how many of them, where more than 31 says that it is
+-- too long
 
 abbrev pub bytesOf : List ℕ → List ℕ
 bytesOf image = take 16 image
@@ -41,18 +46,24 @@ isOdd detail = eqb (detail % 2) 1
 abbrev pub directionFrom : ℕ → Direction
 directionFrom detail = cond (isOdd detail) In Out
 
+abbrev pub lunFrom : ℕ → Lun
+lunFrom bits = cond (isOdd bits) Lun1 Lun0
+
 abbrev pub phaseFrom : ℕ → ℕ → ℕ → ℕ → Phase
 phaseFrom kind detail tag amount =
     cond (eqb kind 0) Awaiting
-    (cond (eqb kind 1) (Busy (directionFrom detail) tag amount)
+    (cond (eqb kind 1) (Busy (directionFrom detail) (lunFrom (detail / 2)) tag amount)
     (cond (eqb kind 2) (StatusWaiting tag amount detail)
     (Stopped (isOdd detail))))
 
 abbrev pub pageFrom : ℕ → PageSize
 pageFrom code = cond (eqb code 0) Of32 (cond (eqb code 1) Of64 (cond (eqb code 2) Of128 Of256))
 
+abbrev pub drivesFrom : ℕ → Drives
+drivesFrom bits = cond (isOdd bits) Two One
+
 abbrev pub dockOf : List ℕ → Dock
-dockOf image = docked (isOdd (byte 29 image / 4)) (pageFrom (byte 29 image % 4))
+dockOf image = docked (isOdd (byte 29 image / 4)) (pageFrom (byte 29 image % 4)) (drivesFrom (byte 29 image / 8))
 
 abbrev pub decode : List ℕ → Bridge
 decode image =
@@ -83,7 +94,7 @@ pageCode Of128 = 2
 pageCode Of256 = 3
 
 abbrev pub dockByte : Dock → ℕ
-dockByte dock = pageCode (dock .page) + 4 * one (dock .«bus_powered»)
+dockByte dock = pageCode (dock .page) + 4 * one (dock .«bus_powered») + 8 * maxLun (dock .drives)
 
 abbrev pub powered : Start → List ℕ
 powered start = startBytes start ++ replicate 13 0 ++ dockByte (start .dock) ∷ replicate 32 0
@@ -110,7 +121,7 @@ put (Sets c) image = calm (set image 24 (one c))
 put Awaits image = set image 27 0
 put Resets image = dropped (set image 27 0)
 put Drops image = dropped image
-put (Begins direction tag l) image = phased 1 (one (inward direction)) (numbered tag l image)
+put (Begins direction lun tag l) image = phased 1 (one (inward direction) + 2 * lunNumber lun) (numbered tag l image)
 put (Finishes direction halts status tag residue) image =
     let now = phased 2 status (numbered tag residue image) in
     cond halts (marked direction 1 now) now

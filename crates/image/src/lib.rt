@@ -6,13 +6,15 @@ ghost use Rattle.rules.specs.Words.{long, byte};
 ghost use Rattle.rules.specs.Held.{starting, byDefault};
 ghost use Rattle.rules.specs.Answers.{seenOf};
 ghost use Rattle.rules.specs.Packets.{signatureOf};
-ghost use Rattle.image.specs.Image.{bytesOf, isMarked, directionFrom, phaseFrom, pageCode, pageFrom, dockByte, dockOf, decode, worldOf, heldIn, powered, numbered, phased, marked, dropped, calm, put, added};
+ghost use Rattle.image.specs.Image.{bytesOf, isMarked, directionFrom, lunFrom, phaseFrom, pageCode, pageFrom, drivesFrom, dockByte, dockOf, decode, worldOf, heldIn, powered, numbered, phased, marked, dropped, calm, put, added};
 use rules::Bridge;
 use rules::Change;
 use rules::CommandPacket;
 use rules::Direction;
 use rules::Dock;
+use rules::Drives;
 use rules::Halts;
+use rules::Lun;
 use rules::PageSize;
 use rules::Phase;
 use rules::Seen;
@@ -23,7 +25,7 @@ use rules::fields::FIRST_STRING;
 pub const IMAGE: usize = 62;
 
 // Behind the sixteen configuration bytes stand the tag, and L or the residue; a mark each for configured, bulk out halted and bulk in halted; the
-// phase; its direction, its status or its note; what is fixed at power-on, in one byte; and what is held: the bytes, and how many they are.
+// phase; its direction and its LUN, its status, or its note; what is fixed at power-on, in one byte; and what is held: the bytes, and how many they are.
 const SIGNATURE: usize = 0x04;
 
 const TAG: usize = 16;
@@ -85,12 +87,22 @@ fn page_from(code: u8) -> PageSize
     }
 }
 
-// What is fixed at power-on, as a byte: the page size below, and above it whether the dock is bus powered.
+fn drives_from(bits: u8) -> Drives
+    ensures { λ r. ⌜ r ≡ drivesFrom bits ⌝ }
+{
+    if bits % 2 == 1 {
+        return Drives::Two;
+    }
+    Drives::One
+}
+
+// What is fixed at power-on, as a byte: the page size below, above it whether the dock is bus powered, and the highest LUN.
 fn dock_byte(dock: Dock) -> u8
     ensures { λ r. ⌜ r ≡ dockByte dock ⌝ }
 {
     let page = dock.page;
-    page_code(page) + 4 * dock.bus_powered as u8
+    let drives = dock.drives;
+    page_code(page) + 4 * dock.bus_powered as u8 + 8 * drives.max_lun()
 }
 
 // Whatever it held, an image is that of a dock's bridge at power-on.
@@ -119,15 +131,26 @@ fn direction_from(detail: u8) -> Direction
     Direction::Out
 }
 
-// The direction is read beforehand: then no arm does more than put a phase together, and none costs a jump.
+fn lun_from(bits: u8) -> Lun
+    ensures { λ r. ⌜ r ≡ lunFrom bits ⌝ }
+{
+    if bits % 2 == 1 {
+        return Lun::Lun1;
+    }
+    Lun::Lun0
+}
+
+// Direction and LUN are read beforehand: then no arm does more than put a phase together, and none costs a jump.
 fn phase_from(kind: u8, detail: u8, tag: u32, amount: u32) -> Phase
     ensures { λ r. ⌜ r ≡ phaseFrom kind detail tag amount ⌝ }
 {
     let direction = direction_from(detail);
+    let lun = lun_from(detail / 2);
     match kind {
         AWAITING => Phase::Awaiting,
         BUSY => Phase::Busy {
             direction: direction,
+            lun: lun,
             tag: tag,
             length: amount,
         },
@@ -178,7 +201,16 @@ fn dock_of(image: &[u8; IMAGE]) -> Dock
     Dock {
         bus_powered: fixed / 4 % 2 == 1,
         page: page_from(fixed % 4),
+        drives: drives_from(fixed / 8),
     }
+}
+
+// How many drives a packet is judged by.
+pub fn drives_of(image: &[u8; IMAGE]) -> Drives
+    ensures { λ r. ⌜ r ≡ decode (now (image .entry)) .dock .drives ⌝ }
+{
+    let dock = dock_of(image);
+    dock.drives
 }
 
 // What a control request is judged by.
@@ -306,11 +338,11 @@ fn put_calm(image: &mut [u8; IMAGE])
 }
 
 // A command begins.
-fn put_begun(image: &mut [u8; IMAGE], direction: Direction, tag: u32, length: u32)
-    ensures { λ u. ⌜ now (image .exit) ≡ put (Change.Begins direction tag length) (now (image .entry)) ⌝ }
+fn put_begun(image: &mut [u8; IMAGE], direction: Direction, lun: Lun, tag: u32, length: u32)
+    ensures { λ u. ⌜ now (image .exit) ≡ put (Change.Begins direction lun tag length) (now (image .entry)) ⌝ }
 {
     put_numbers(image, tag, length);
-    put_phase(image, BUSY, direction.is_in() as u8);
+    put_phase(image, BUSY, direction.is_in() as u8 + 2 * lun.number());
 }
 
 // A command finishes, and the pipe of its direction is halted or not.
@@ -351,9 +383,10 @@ pub fn make(image: &mut [u8; IMAGE], change: Change)
         Change::Drops => drop_held(image),
         Change::Begins {
             direction,
+            lun,
             tag,
             length,
-        } => put_begun(image, direction, tag, length),
+        } => put_begun(image, direction, lun, tag, length),
         Change::Finishes {
             direction,
             halts,

@@ -1,6 +1,6 @@
 -- Laws of the exported calls: what is left in the image and returned, from what the event promises.
 use mathlib.Core.Path.{_≡_, refl, sym, ap, _∙_}
-use mathlib.Core.Bool.{false}
+use mathlib.Core.Bool.{false, true≢false}
 use mathlib.Core.List.{List, [], _++_}
 use Prim.Native.Nat.{ℕ, _≤_}
 use lib.ListN.{length, take, drop, take-append-drop}
@@ -8,11 +8,13 @@ use lib.Seq.{length-take-le}
 use Rattle.rules.specs.declared.Bridge.{Bridge}
 use Rattle.rules.specs.declared.Request.{Request}
 use Rattle.rules.specs.declared.Change.the-variants.{Nothing, Drops}
+use Rattle.rules.specs.declared.Phase.{Phase}
+use Rattle.rules.specs.declared.Phase.the-variants.{Awaiting, Busy, StatusWaiting, Stopped}
 use Rattle.rules.specs.declared.Setup.{Setup}
 use Rattle.rules.specs.declared.Stands.the-variants.{InRoom, InMemory}
 use Rattle.rules.specs.declared.addresses.Address.{Address}
 use Rattle.rules.specs.Words.{byte, first}
-use Rattle.rules.specs.Held.{world}
+use Rattle.rules.specs.Held.{world, isBusy}
 use Rattle.rules.specs.Packets.{signatureOf}
 use Rattle.rules.specs.Bursts.{kept}
 use Rattle.rules.specs.Answers.{unawaitedChecks}
@@ -27,7 +29,7 @@ use Rattle.packets.specs.Awaited.{Awaits}
 use Rattle.packets.proofs.Commands.{awaits}
 use Rattle.image.specs.declared.Fragments.{Fragments}
 use Rattle.image.specs.Image.{bytesOf, heldOf, decode, worldOf, heldIn, put, added}
-use Rattle.thrandue.specs.Calls.{called, returns, holds, inImage, calls, CallTold}
+use Rattle.thrandue.specs.Calls.{called, returns, holds, inImage, calls, CallTold, busyLun}
 
 module _ (image memory : List ℕ) (event : ℕ → Event) (room : List ℕ) (o : Outcome) {memory' room' : List ℕ} where
   -- with the configuration bytes written
@@ -79,7 +81,7 @@ module _ (image : List ℕ) {n : ℕ} {b : Bridge} (says : n ≡ first (unawaite
       told image memory (Packet p) room (outcome n 0 Nothing) refl
       (packet-unawaited (decode image) (signatureOf (bytesOf image)) p room n (rw loaded at says) other (bytesOf image) memory refl) r
 
-  pub awaits-told : n ≡ 0 → Awaits (decode image)
+  pub awaits-told : n ≡ 0 → Awaits (decode image .dock .drives) (decode image)
   awaits-told z = awaits (decode image) (sym (rw loaded at says) ∙ z)
 
 -- ---- a packet in bursts
@@ -102,3 +104,10 @@ counted image f e = rw e (held-length (take (byte 61 image) (drop 30 image)))
 -- the configuration bytes are sixteen
 pub sixteen : (image : List ℕ) → 16 ≤ length image → length (bytesOf image) ≡ 16
 sixteen image h = length-take-le 16 image h
+
+-- a bridge that is not busy is busy with no LUN
+pub no-lun : (p : Phase) → isBusy p ≡ false → busyLun p ≡ 0xFF
+no-lun Awaiting h = refl
+no-lun (Busy direction lun tag l) h = absurd (true≢false h)
+no-lun (StatusWaiting tag residue status) h = refl
+no-lun (Stopped reset) h = refl

@@ -185,9 +185,9 @@ calls-resume start memory history d since b kept all all' stop ends same =
 
 -- the dock of a power-on with a good reading has its page size
 replaced : (given : Dock) (r : Reading) (memory : List ℕ) → r .answer ≡ 0
-    → worldOf (poweredBy given r .image) memory .bridge .dock ≡ docked (given .«bus_powered») (r .settings .page)
+    → worldOf (poweredBy given r .image) memory .bridge .dock ≡ docked (given .«bus_powered») (r .settings .page) (given .drives)
 replaced given r memory z =
-    ap (λ (v : World). v .bridge .dock) (powers-on (starting (docked (given .«bus_powered») (inForce (given .page) r)) (r .settings .bytes)) memory)
+    ap (λ (v : World). v .bridge .dock) (powers-on (starting (docked (given .«bus_powered») (inForce (given .page) r) (given .drives)) (r .settings .bytes)) memory)
     ∙ rw z refl
 
 pub stored-size-replaces : StoredSizeReplaces
@@ -202,7 +202,7 @@ stored-is-restored start memory cs given b =
     let run = since-on start memory cs b in
     let w : World = standsFor (partsSince start memory cs) in
     let n : length (drop 2 (w .bytes)) ≡ 14 = length-drop 2 (w .bytes) ∙ omega (arith, sixteen (partsSince start memory cs .0) (omega (arith, run .image))) in
-    let dock : Dock = docked (w .bridge .dock .«bus_powered») given in
+    let dock : Dock = docked (w .bridge .dock .«bus_powered») given (w .bridge .dock .drives) in
     let read = settings-come-back (settingsFrom (drop 2 (w .bytes)) (w .bridge .dock .page)) n .0 in (
       ap (λ (r : Reading). r .answer) read,
       ap (λ (r : Reading). worldOf (poweredBy dock r .image) memory .bytes) read

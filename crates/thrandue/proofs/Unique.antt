@@ -15,6 +15,7 @@ use Rattle.thrandue.proofs.commands.«thrandue_end_mark» as EndMark
 use Rattle.thrandue.proofs.«thrandue_report» as Report
 use Rattle.thrandue.proofs.«thrandue_status» as Status
 use Rattle.thrandue.proofs.«thrandue_phase» as Phase
+use Rattle.thrandue.proofs.«thrandue_lun» as Lun
 use Rattle.thrandue.proofs.«thrandue_configuration» as Configuration
 use Rattle.thrandue.proofs.«thrandue_halts» as Halts
 use Rattle.thrandue.proofs.«thrandue_held» as Held
@@ -23,10 +24,10 @@ abbrev number : Called → ℕ
 number c = c .returned
 
 pub «thrandue_power_on» : OneOutcome PowerOn.Kinds.ps PowerOn.Kinds.r PowerOn.Reads.Post
-«thrandue_power_on» κs a r r' left left' p q = (ap number (only p q), ap (λ (c : Called). (c .image, (tt, (tt, tt)))) (only p q))
+«thrandue_power_on» κs a r r' left left' p q = (ap number (only p q), ap (λ (c : Called). (c .image, (tt, (tt, (tt, tt))))) (only p q))
 
 pub «thrandue_power_on_with_store» : OneOutcome PowerOnWithStore.Kinds.ps PowerOnWithStore.Kinds.r PowerOnWithStore.Reads.Post
-«thrandue_power_on_with_store» κs a r r' left left' p q = (ap number (only p q), ap (λ (c : Called). (c .image, (tt, (tt, (tt, tt))))) (only p q))
+«thrandue_power_on_with_store» κs a r r' left left' p q = (ap number (only p q), ap (λ (c : Called). (c .image, (tt, (tt, (tt, (tt, tt)))))) (only p q))
 
 pub «thrandue_bus_reset» : OneOutcome BusReset.Kinds.ps BusReset.Kinds.r BusReset.Reads.Post
 «thrandue_bus_reset» κs a r r' left left' p q =
@@ -63,6 +64,9 @@ pub «thrandue_status» : OneOutcome Status.Kinds.ps Status.Kinds.r Status.Reads
 
 pub «thrandue_phase» : OneOutcome Phase.Kinds.ps Phase.Kinds.r Phase.Reads.Post
 «thrandue_phase» κs a r r' left left' p q = (only p q, refl)
+
+pub «thrandue_lun» : OneOutcome Lun.Kinds.ps Lun.Kinds.r Lun.Reads.Post
+«thrandue_lun» κs a r r' left left' p q = (only p q, refl)
 
 pub «thrandue_configuration» : OneOutcome Configuration.Kinds.ps Configuration.Kinds.r Configuration.Reads.Post
 «thrandue_configuration» κs a r r' left left' p q = (only p q, refl)

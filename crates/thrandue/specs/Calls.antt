@@ -13,7 +13,7 @@ use Rattle.rules.specs.Words.{one}
 use Rattle.rules.specs.declared.Change.the-variants.{Drops}
 use Rattle.rules.specs.Descriptors.{numberOf as startOf}
 use Rattle.rules.specs.Step.{Event, BusReset, Control, Packet, Report, StatusRequest, Burst, EndMark}
-use Rattle.rules.specs.Held.{docked, starting}
+use Rattle.rules.specs.Held.{lunNumber, docked, starting}
 use Rattle.rules.specs.Promise.{Left, leaves}
 use Rattle.settings.specs.declared.Reading.{Reading}
 use Rattle.settings.specs.Store.{inForce}
@@ -61,7 +61,7 @@ CallTold image event room returned image' room' = (memory : List ℕ) → called
 -- its page size is in force, which is the given one where it is refused
 abbrev pub poweredBy : Dock → Reading → Called
 poweredBy given r =
-    let dock : Dock = docked (given .«bus_powered») (inForce (given .page) r) in
+    let dock : Dock = docked (given .«bus_powered») (inForce (given .page) r) (given .drives) in
     called (r .answer) (powered (starting dock (r .settings .bytes))) [] []
 
 -- ---- readers of the image
@@ -69,12 +69,19 @@ poweredBy given r =
 -- 0 awaiting, 1 busy, 2 status waiting, 3 stopped, 4 stopped and a Mass Storage Reset has come
 abbrev pub numberOf : Phase → ℕ
 numberOf Awaiting = 0
-numberOf (Busy direction tag l) = 1
+numberOf (Busy direction lun tag l) = 1
 numberOf (StatusWaiting tag residue status) = 2
 numberOf (Stopped reset) = 3 + one reset
 
 abbrev pub phaseNumber : Bridge → ℕ
 phaseNumber b = numberOf (b .phase)
+
+-- "A reader for C of the LUN that the bridge is busy with": 0 or 1, and 0xFF where it is not busy
+abbrev pub busyLun : Phase → ℕ
+busyLun Awaiting = 0xFF
+busyLun (Busy direction lun tag l) = lunNumber lun
+busyLun (StatusWaiting tag residue status) = 0xFF
+busyLun (Stopped reset) = 0xFF
 
 -- 1 for bulk out, and 2 for bulk in
 abbrev pub haltNumber : Bridge → ℕ

@@ -127,11 +127,12 @@ CallsResume =
 
 -- ---- a store at power-on
 
--- "an accepted store's size replaces the number given at power-on", whatever that was
+-- "an accepted store's size replaces the number given at power-on", whatever that was; of the dock's facts no other
 abbrev pub StoredSizeReplaces : Type 0
 StoredSizeReplaces =
     (given : Dock) (store memory : List ℕ) → readBy newest store .answer ≡ 0
-    → worldOf (poweredBy given (readBy newest store) .image) memory .bridge .dock ≡ docked (given .«bus_powered») (readBy newest store .settings .page)
+    → worldOf (poweredBy given (readBy newest store) .image) memory .bridge .dock
+    ≡ docked (given .«bus_powered») (readBy newest store .settings .page) (given .drives)
 
 -- "a refused store leaves the defaults": the image is that of a power-on without a store, byte for byte
 abbrev pub RefusedLeavesDefaults : Type 0
@@ -145,6 +146,6 @@ StoredIsRestored =
     (start : Start) (memory : List ℕ) (cs : List Call) (given : PageSize) → AllOfBytes (eventsOf cs)
     → (let w : World = standsFor (partsSince start memory cs) in
     let dock : Dock = w .bridge .dock in
-    let c : Called = poweredBy (docked (dock .«bus_powered») given) (readBy newest (written (settingsFrom (drop 2 (w .bytes)) (dock .page)))) in
+    let c : Called = poweredBy (docked (dock .«bus_powered») given (dock .drives)) (readBy newest (written (settingsFrom (drop 2 (w .bytes)) (dock .page)))) in
     let v : World = worldOf (c .image) memory in
     (c .returned ≡ 0) × (v .bytes ≡ w .bytes) × (v .bridge .dock ≡ dock))

@@ -28,12 +28,16 @@ fn refuse(image: &mut [u8; IMAGE], answer: u8) -> u32
 
 // A packet that is awaited, the first n of some bytes: a whole one, or what is held at an end mark.
 fn take(image: &mut [u8; IMAGE], bytes: &[u8], n: usize, operations: &mut [u16]) -> u32
-    requires { ⌜ (n ≤ length (now bytes)) × Awaits (decode (now image)) ⌝ }
+    requires { ⌜ (n ≤ length (now bytes)) × Awaits (decode (now image) .dock .drives) (decode (now image)) ⌝ }
     ensures { λ r. ⌜ CallTold (now (image .entry)) (Packet (front n (now (bytes .entry)))) (now (operations .entry)) r (now (image .exit)) (now (operations .exit)) ⌝ }
 {
     image::make(image, Change::Drops);
+    let drives = image::drives_of(image);
     let signature = image::signature_of(image);
-    leave(image, packets::awaited(signature, &bytes[..n], operations))
+    leave(
+        image,
+        packets::awaited(drives, signature, &bytes[..n], operations),
+    )
 }
 
 #[no_mangle]

@@ -4,13 +4,13 @@ ghost use mathlib.Core.List.{[], _++_};
 ghost use Prim.Native.Nat.{_≤_};
 ghost use lib.ListN.{length, drop};
 ghost use Rattle.outcomes.specs.Outcomes.{leftBy};
-ghost use Rattle.rules.specs.Held.{world, pageOf, docked, byDefault, configuration};
+ghost use Rattle.rules.specs.Held.{world, pageOf, drivesOf, docked, byDefault, configuration};
 ghost use Rattle.rules.specs.Promise.{served};
 ghost use Rattle.rules.specs.declared.Stands.the-variants.{InRoom, InMemory};
 ghost use Rattle.rules.specs.Step.{BusReset, Control, Report, StatusRequest};
 ghost use Rattle.settings.specs.Store.{readBy, newest, inForce};
 ghost use Rattle.image.specs.Image.{bytesOf, decode, heldOf, powered, put};
-ghost use Rattle.thrandue.specs.Calls.{called, returns, calls, CallTold, poweredBy, phaseNumber, haltNumber};
+ghost use Rattle.thrandue.specs.Calls.{called, returns, calls, CallTold, poweredBy, phaseNumber, busyLun, haltNumber};
 
 mod commands;
 
@@ -19,6 +19,7 @@ use image::IMAGE;
 use requests::Judgement;
 use rules::Bridge;
 use rules::Dock;
+use rules::Drives;
 use rules::PageSize;
 use rules::Phase;
 use rules::Request;
@@ -26,6 +27,8 @@ use rules::Setup;
 use rules::addresses::Address;
 use rules::answers;
 use settings::Reading;
+
+const NO_LUN: u8 = 0xFF;
 
 // What an event leaves in the image and returns.
 fn leave(image: &mut [u8; IMAGE], o: Outcome) -> u32
@@ -71,12 +74,18 @@ fn in_force(given: PageSize, reading: Reading) -> PageSize
 }
 
 #[no_mangle]
-pub extern "C" fn thrandue_power_on(image: &mut [u8; IMAGE], bus_powered: bool, page: u32) -> u32
-    ensures { λ r. ⌜ called r (now (image .exit)) [] [] ≡ called 0 (powered (byDefault (docked «bus_powered» (pageOf page)))) [] [] ⌝ }
+pub extern "C" fn thrandue_power_on(
+    image: &mut [u8; IMAGE],
+    bus_powered: bool,
+    page: u32,
+    drives: u32,
+) -> u32
+    ensures { λ r. ⌜ called r (now (image .exit)) [] [] ≡ called 0 (powered (byDefault (docked «bus_powered» (pageOf page) (drivesOf drives)))) [] [] ⌝ }
 {
     let dock = Dock {
         bus_powered: bus_powered,
         page: PageSize::of(page),
+        drives: Drives::of(drives),
     };
     image::power_on(image, dock);
     answers::DONE as u32
@@ -88,15 +97,17 @@ pub extern "C" fn thrandue_power_on_with_store(
     image: &mut [u8; IMAGE],
     bus_powered: bool,
     page: u32,
+    drives: u32,
     store: &[u8],
 ) -> u32
-    ensures { λ r. ⌜ called r (now (image .exit)) [] [] ≡ poweredBy (docked «bus_powered» (pageOf page)) (readBy newest (now (store .entry))) ⌝ }
+    ensures { λ r. ⌜ called r (now (image .exit)) [] [] ≡ poweredBy (docked «bus_powered» (pageOf page) (drivesOf drives)) (readBy newest (now (store .entry))) ⌝ }
 {
     let reading = settings::read(store);
     let bytes = reading.settings.bytes;
     let dock = Dock {
         bus_powered: bus_powered,
         page: in_force(PageSize::of(page), reading),
+        drives: Drives::of(drives),
     };
     image::power_on_with(image, dock, &bytes);
     reading.answer as u32
@@ -162,6 +173,7 @@ pub extern "C" fn thrandue_phase(image: &[u8; IMAGE]) -> u8
         Phase::Awaiting => 0,
         Phase::Busy {
             direction: _,
+            lun: _,
             tag: _,
             length: _,
         } => 1,
@@ -171,6 +183,30 @@ pub extern "C" fn thrandue_phase(image: &[u8; IMAGE]) -> u8
             status: _,
         } => 2,
         Phase::Stopped { reset } => 3 + reset as u8,
+    }
+}
+
+// In a phase that is not busy there is no LUN.
+#[no_mangle]
+pub extern "C" fn thrandue_lun(image: &[u8; IMAGE]) -> u8
+    ensures { λ r. ⌜ r ≡ busyLun (decode (now (image .entry)) .phase) ⌝ }
+{
+    let b = image::load(image);
+    let phase = b.phase;
+    match phase {
+        Phase::Busy {
+            direction: _,
+            lun,
+            tag: _,
+            length: _,
+        } => lun.number(),
+        Phase::Awaiting
+        | Phase::StatusWaiting {
+            tag: _,
+            residue: _,
+            status: _,
+        }
+        | Phase::Stopped { reset: _ } => NO_LUN,
     }
 }
 

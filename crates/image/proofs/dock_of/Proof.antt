@@ -9,8 +9,12 @@ element-copy-out-fixed c = search needs
 page-from-requires : tie.Need-page-from-requires
 page-from-requires c κs = search needs
 
+drives-from-requires : tie.Need-drives-from-requires
+drives-from-requires c κs = search needs
+
 returns : tie.Need-returns
-returns c = rw (c .page-from .ensures)
+returns c = rw (c .drives-from .ensures, c .before .page-from .ensures)
 
 pub dock-of-spec : {M : Type 1} → statement M
-dock-of-spec = tie.close (tie.spec element-copy-out-fixed page-from-requires returns)
+dock-of-spec =
+    tie.close (tie.spec element-copy-out-fixed page-from-requires drives-from-requires returns)

@@ -7,11 +7,14 @@ use Rattle.image.proofs.phase_from.Tie as tie
 direction-from-requires : tie.Need-direction-from-requires
 direction-from-requires c κs = search needs
 
+lun-from-requires : tie.Need-lun-from-requires
+lun-from-requires c κs = search needs
+
 returns : tie.Need-returns
 returns c = rw (c .match .keys1)
 
 returns-2 : tie.Need-returns-2
-returns-2 c = rw (c .match .keys2, c .before .direction-from .ensures)
+returns-2 c = rw (c .match .keys2, c .before .lun-from .ensures, c .before .before .direction-from .ensures)
 
 returns-3 : tie.Need-returns-3
 returns-3 c = rw (c .match .keys3)
@@ -21,4 +24,5 @@ returns-4 c = rw (ne-eqb _ 0 (c .match .rest .0 .0 .1), ne-eqb _ 1 (c .match .re
 
 pub phase-from-spec : {M : Type 1} → statement M
 phase-from-spec =
-    tie.close (tie.spec direction-from-requires returns returns-2 returns-3 returns-4)
+    tie.close
+    (tie.spec direction-from-requires lun-from-requires returns returns-2 returns-3 returns-4)

@@ -12,6 +12,9 @@ of-requires c κs = search needs
 in-force-requires : tie.Need-in-force-requires
 in-force-requires c κs = search needs
 
+of-requires-2 : tie.Need-of-requires-2
+of-requires-2 c κs = search needs
+
 power-on-with-requires : tie.Need-power-on-with-requires
 power-on-with-requires c κs = search needs
 
@@ -19,7 +22,9 @@ cast-result : tie.Need-cast-result
 cast-result c = search needs
 
 returns : tie.Need-returns
-returns c = rw (c .before .power-on-with .ensures, c .before .before .before .before .in-force .ensures, c .before .before .before .before .before .of .ensures, c .before .before .before .before .before .before .before .read .ensures)
+returns c =
+    let forced = c .before .before .before .before .before in
+    rw (c .before .power-on-with .ensures, c .before .before .before .before .of2 .ensures, forced .in-force .ensures, forced .before .of .ensures, forced .before .before .before .read .ensures)
 
 pub thrandue-power-on-with-store-spec : {M : Type 1} → statement M
 thrandue-power-on-with-store-spec =
@@ -28,6 +33,7 @@ thrandue-power-on-with-store-spec =
     read-requires
     of-requires
     in-force-requires
+    of-requires-2
     power-on-with-requires
     cast-result
     returns)

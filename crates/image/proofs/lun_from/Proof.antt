@@ -1,0 +1,13 @@
+-- `image::lun_from` meets its contract.
+use borrow.Author.Tests.{ne-eqb}
+use Rattle.image.proofs.lun_from.Statement.{statement}
+use Rattle.image.proofs.lun_from.Tie as tie
+
+returns : tie.Need-returns
+returns c = rw (c .if1 .taken)
+
+returns-2 : tie.Need-returns-2
+returns-2 c = rw (ne-eqb _ _ (c .if1 .left))
+
+pub lun-from-spec : {M : Type 1} → statement M
+lun-from-spec = tie.close (tie.spec returns returns-2)
