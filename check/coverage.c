@@ -12,11 +12,13 @@ static const char help[] =
     "Replays sessions and prints how often each event, the control\n"
     "requests one by one, met each answer in each phase before it, - where the paper allows\n"
     "none, and how often with something held; how often a power-on met each number of a store;\n"
-    "and how often a memory write was done, or crossed a page, at the end of one, by where the\n"
-    "page size came from.\n"
+    "how often a memory write was done, or crossed a page, at the end of one, by where the page\n"
+    "size came from; and how often a packet with nothing wrong but perhaps its LUN was taken, or\n"
+    "answered 14, by the number of drives given.\n"
     "The options hold for the files after them:\n" BENCH_OPTIONS_HELP
     "Status 0: all is allowed, and met 100 times or more; 1: it is not, a call changed what it\n"
-    "must leave alone, or a session is torn; 2: bad usage, or a file that cannot be read.\n";
+    "must leave alone or left a wrong LUN told, or a session is torn; 2: bad usage, or a file\n"
+    "that cannot be read.\n";
 
 enum {
     PHASES = 5,
@@ -174,10 +176,10 @@ enum {
     ROWS = sizeof allowed / sizeof *allowed
 };
 
-/* The kinds of block that a select is made for, by a bit each: that it reads registers, action bit
- * 5, that it selects register 6, and bits 4, 5 and 7 of byte 11. */
+/* The kinds of packet that a select is made for, by a bit each: that its block reads registers,
+ * action bit 5, that it selects register 6, bits 4, 5 and 7 of byte 11, and the LUN. */
 enum {
-    SELECTS = 64
+    SELECTS = 128
 };
 
 /* Where a page size came from: a number given at power-on, or a store that replaced it. */
@@ -194,6 +196,28 @@ enum page {
 static const char *const page_names[PAGES] = {"32 given",  "64 given",      "128 given",
                                               "256 given", "another given", "a store's"};
 
+/* The number of drives given at power-on. */
+enum drives {
+    DRIVES_1,
+    DRIVES_2,
+    DRIVES_OTHER,
+    DRIVES
+};
+
+static const char *const drives_names[DRIVES] = {"1 drive given", "2 drives given",
+                                                 "another given"};
+
+/* LUN bytes: those of the two drives, and from 2 on those that end as they do. */
+enum lun {
+    LUN_0,
+    LUN_1,
+    LUN_EVEN,
+    LUN_ODD,
+    LUNS
+};
+
+static const char *const lun_names[LUNS] = {"0", "1", "even", "odd"};
+
 struct coverage {
     struct bench bench;
     struct bench before;
@@ -202,6 +226,10 @@ struct coverage {
     /* How often a memory write at the end of a page was done, and how often it crossed it. */
     unsigned long page_ends[PAGES][2];
     enum page page; /* of the session */
+    /* How often a packet with such a LUN was taken, and how often it was not meaningful. */
+    unsigned long luns[DRIVES][LUNS][2];
+    enum drives drives;               /* of the session */
+    uint8_t fragments[PACKET_LENGTH]; /* what is held of a packet in bursts */
     /* How often something was held before it, and how often a burst left so much held. */
     unsigned long holding[EVENTS][ANSWERS];
     unsigned long held[THRANDUE_HELD_TOO_LONG + 1];
@@ -239,11 +267,34 @@ static enum event event_of(const struct record *record) {
     }
 }
 
-static unsigned select_of(const uint8_t *block) {
+/* What a burst adds to those before it. */
+static void hold(struct coverage *coverage, const struct record *record) {
+    size_t held = thrandue_held(coverage->before.image);
+    if (held + record->length <= PACKET_LENGTH)
+        memcpy(coverage->fragments + held, record->payload, record->length);
+}
+
+/* The packet that a record hands over, whole or by the bursts before it, NULL where it has not the
+ * length of one. */
+static const uint8_t *packet_of(const struct coverage *coverage, const struct record *record) {
+    if (record->kind == RECORD_PACKET)
+        return record->length == PACKET_LENGTH ? record->payload : NULL;
+    return record->kind == RECORD_END_MARK && thrandue_held(coverage->before.image) == PACKET_LENGTH
+               ? coverage->fragments
+               : NULL;
+}
+
+static unsigned select_of(const uint8_t *packet) {
+    const uint8_t *block = packet + PACKET_BLOCK;
     unsigned action = block[2];
     unsigned device = block[11];
     return (action & 1) | (action >> 5 & 1) << 1 | (block[3] >> 6 & 1U) << 2 |
-           (device >> 4 & 3) << 3 | (device >> 7) << 5;
+           (device >> 4 & 3) << 3 | (device >> 7) << 5 | (packet[PACKET_LUN] & 1U) << 6;
+}
+
+static enum lun lun_of(const uint8_t *packet) {
+    unsigned lun = packet[PACKET_LUN];
+    return (enum lun)(lun < 2 ? lun : LUN_EVEN + lun % 2);
 }
 
 static void copy(void *to, const void *from, size_t bytes) {
@@ -363,6 +414,17 @@ static bool keeps_the_rest(const struct coverage *coverage, const struct record 
            same_from(0, bench_payload(bench, record), record->payload, record->length);
 }
 
+/* Of a busy bridge the LUN of the packet that made it so, and of any other none. */
+static bool tells_the_lun(const struct coverage *coverage, const uint8_t *packet) {
+    const thrandue_image *image = coverage->bench.image;
+    uint8_t lun = thrandue_lun(coverage->before.image);
+    if (thrandue_phase(image) != THRANDUE_BUSY)
+        lun = THRANDUE_NO_LUN;
+    else if (thrandue_phase(coverage->before.image) != THRANDUE_BUSY && packet != NULL)
+        lun = packet[PACKET_LUN];
+    return thrandue_lun(image) == lun;
+}
+
 /* At the end of a page is a write that ends with it and is done, or that goes a byte beyond and
  * crosses it; with a store's page size, one that the number given would have answered otherwise. */
 static void count_page_end(struct coverage *coverage, const uint8_t *setup, uint8_t answer) {
@@ -375,6 +437,19 @@ static void count_page_end(struct coverage *coverage, const uint8_t *setup, uint
         coverage->page_ends[coverage->page][crosses]++;
 }
 
+/* A packet that is judged by its LUN has nothing wrong before it, and its flags and block length
+ * are right. */
+static void count_packet(struct coverage *coverage, const uint8_t *packet, uint64_t outcome) {
+    uint8_t answer = thrandue_answer(outcome);
+    bool refused = answer == THRANDUE_NOT_MEANINGFUL;
+    uint8_t length = packet[PACKET_BLOCK_LENGTH];
+    if (thrandue_count(outcome) != 0)
+        coverage->selects[select_of(packet)]++;
+    if ((refused || answer == THRANDUE_DONE || answer == THRANDUE_OPERATION_ROOM) &&
+        (packet[PACKET_FLAGS] & ~FLAGS_IN) == 0 && length >= 1 && length <= BLOCK_LENGTH)
+        coverage->luns[coverage->drives][lun_of(packet)][refused]++;
+}
+
 static void count_event(void *context, const struct record *record) {
     struct coverage *coverage = context;
     enum event event = event_of(record);
@@ -382,18 +457,23 @@ static void count_event(void *context, const struct record *record) {
     remember(coverage);
     uint64_t outcome = bench_event(&coverage->bench, record);
     uint8_t answer = thrandue_answer(outcome);
+    const uint8_t *packet = packet_of(coverage, record);
     coverage->counts[event][answer][phase]++;
     coverage->holding[event][answer] += thrandue_held(coverage->before.image) != 0;
     coverage->held[thrandue_held(coverage->bench.image)] += event == BURST;
-    if (event == PACKET && thrandue_count(outcome) != 0)
-        coverage->selects[select_of(record->payload + PACKET_BLOCK)]++;
+    if (packet != NULL)
+        count_packet(coverage, packet, outcome);
+    if (event == BURST)
+        hold(coverage, record);
     if (event == LOAD_CONFIG_DATA)
         count_page_end(coverage, record->payload, answer);
-    if (keeps_the_rest(coverage, record, event, outcome))
+    bool keeps = keeps_the_rest(coverage, record, event, outcome);
+    if (keeps && tells_the_lun(coverage, packet))
         return;
     coverage->faults++;
-    command_say("%s, answer %u while %s: changed what it must leave alone", event_names[event],
-                (unsigned)answer, phase_names[phase]);
+    command_say("%s, answer %u while %s: %s", event_names[event], (unsigned)answer,
+                phase_names[phase],
+                keeps ? "left a wrong LUN told" : "changed what it must leave alone");
 }
 
 static enum page page_given(uint32_t page) {
@@ -411,12 +491,19 @@ static enum page page_given(uint32_t page) {
     }
 }
 
+static enum drives drives_given(uint32_t drives) {
+    if (drives == 1)
+        return DRIVES_1;
+    return drives == 2 ? DRIVES_2 : DRIVES_OTHER;
+}
+
 /* A store changes, of the image that a power-on without it makes, fourteen bytes and the one with
  * the page size, and no more; one that is refused changes none. */
 static void power_on(struct coverage *coverage, struct bench_options options) {
     uint8_t answer = bench_open(&coverage->bench, options);
     bool stored = options.store != NULL && answer == THRANDUE_DONE;
     coverage->page = stored ? PAGE_OF_STORE : page_given(options.page);
+    coverage->drives = drives_given(options.drives);
     if (options.store != NULL)
         coverage->counts[POWER_ON][answer][thrandue_phase(coverage->bench.image)]++;
     options.store = NULL;
@@ -494,17 +581,49 @@ static void judge_pages(struct coverage *coverage) {
     }
 }
 
+/* LUN 0 is taken, LUN 1 of two drives too, and no other is. */
+static bool is_taken(unsigned drives, unsigned lun) {
+    return lun == LUN_0 || (lun == LUN_1 && drives == DRIVES_2);
+}
+
+static void judge_luns(struct coverage *coverage) {
+    for (unsigned drives = 0; drives < DRIVES; drives++)
+        for (unsigned lun = 0; lun < LUNS; lun++) {
+            const unsigned long *counts = coverage->luns[drives][lun];
+            bool taken = is_taken(drives, lun);
+            if (counts[!taken] >= LEAST && counts[taken] == 0)
+                continue;
+            coverage->faults++;
+            command_say("a LUN byte, %s, %s: taken %lu times, and %lu times not",
+                        drives_names[drives], lun_names[lun], counts[0], counts[1]);
+        }
+}
+
+/* - where the paper allows none. */
+static void print_count(unsigned long count, bool is_allowed) {
+    if (count == 0 && !is_allowed)
+        printf(" %11s", "-");
+    else
+        printf(" %11lu", count);
+}
+
 static void print_row(const struct coverage *coverage, enum event event, uint8_t answer,
                       uint8_t phases) {
     printf("%-18s %6u", event_names[event], (unsigned)answer);
-    for (unsigned phase = 0; phase < PHASES; phase++) {
-        unsigned long count = coverage->counts[event][answer][phase];
-        if (count == 0 && !(phases >> phase & 1))
-            printf(" %11s", "-");
-        else
-            printf(" %11lu", count);
-    }
+    for (unsigned phase = 0; phase < PHASES; phase++)
+        print_count(coverage->counts[event][answer][phase], phases >> phase & 1);
     printf(" %11lu\n", coverage->holding[event][answer]);
+}
+
+static void print_luns(const struct coverage *coverage) {
+    printf("%-18s %6s %11s %11s\n", "drives", "LUN", "taken", "14");
+    for (unsigned drives = 0; drives < DRIVES; drives++)
+        for (unsigned lun = 0; lun < LUNS; lun++) {
+            printf("%-18s %6s", drives_names[drives], lun_names[lun]);
+            print_count(coverage->luns[drives][lun][0], is_taken(drives, lun));
+            print_count(coverage->luns[drives][lun][1], !is_taken(drives, lun));
+            putchar('\n');
+        }
 }
 
 static void print_table(const struct coverage *coverage) {
@@ -518,6 +637,7 @@ static void print_table(const struct coverage *coverage) {
     for (unsigned page = 0; page < PAGES; page++)
         printf("%-18s %6lu %11lu\n", page_names[page], coverage->page_ends[page][0],
                coverage->page_ends[page][1]);
+    print_luns(coverage);
 }
 
 static int conclude(struct coverage *coverage) {
@@ -528,6 +648,7 @@ static int conclude(struct coverage *coverage) {
     judge_bursts(coverage);
     judge_selects(coverage);
     judge_pages(coverage);
+    judge_luns(coverage);
     return command_end(coverage->faults == 0 ? EXIT_FINE : EXIT_REFUSED);
 }
 

@@ -25,6 +25,7 @@ enum {
     WRITE_ALIGNMENT = 8,
     MEMORY_MOST = 2048,
     REGISTERS_READ = 8,
+    TWO_DRIVES = 2,
     TORN_PAYLOAD_MOST = 16
 };
 
@@ -313,6 +314,16 @@ static uint8_t command_signature(struct generator *g) {
     return signature;
 }
 
+/* 0 with one drive, as the bench has it, and either with two. Where the number is not 1, at times
+ * one that a bridge would take which looks at a part of the byte, or of the number. */
+static uint8_t lun(struct generator *g) {
+    static const uint8_t others[] = {1, 1, 2, 3, 0x10, 0x11, 0x80, 0x81, 0xFF};
+    uint32_t drives = g->bench.options.drives;
+    if (drives != 1 && chance(&g->random, 8))
+        return PICK(&g->random, others);
+    return drives == TWO_DRIVES ? (uint8_t)below(&g->random, TWO_DRIVES) : 0;
+}
+
 static void make_register_read(struct generator *g) {
     uint8_t *packet = g->record.payload;
     packet[PACKET_BLOCK + 2] = (uint8_t)((packet[PACKET_BLOCK + 2] & ~0x18) | 0x01);
@@ -332,6 +343,7 @@ static void good_packet(struct generator *g) {
     record_store(packet + PACKET_TRANSFER_LENGTH, 4,
                  chance(&g->random, 90) ? PICK(&g->random, lengths) : draw(&g->random));
     packet[PACKET_FLAGS] = chance(&g->random, 50) ? FLAGS_IN : 0;
+    packet[PACKET_LUN] = lun(g);
     packet[PACKET_BLOCK_LENGTH] = 16;
     fill(&g->random, block, 13);
     block[0] = command_signature(g);

@@ -10,7 +10,7 @@
 static const char help[] =
     "run FILE.. | time TIMES FILE.. | state | copy TIMES BYTES\n"
     "Runs sessions of records through the bridge, each from power-on, and prints nothing of what\n"
-    "it answers.\n"
+    "it answers. Among the files, --drives N is the number of drives for those behind it (1).\n"
     "  run     once; prints how many bus resets, control requests, command packets, drive\n"
     "          reports, status requests, bursts and end marks there were\n"
     "  time    all of them TIMES times; prints the nanoseconds for an event, the calls and the\n"
@@ -57,17 +57,32 @@ static struct session load(const char *name) {
     return session;
 }
 
-static void run(const struct session *session) {
-    measured_power_on();
+/* The next file, NULL at the end; the drives are those given up to it. Ends the program where no
+ * file follows them. */
+static const char *next_file(char ***arguments, uint32_t *drives) {
+    const char *argument = *(*arguments)++;
+    while (argument != NULL && strcmp(argument, "--drives") == 0) {
+        *drives = command_number_after(arguments, argument);
+        argument = *(*arguments)++;
+        if (argument == NULL)
+            exit(command_misused("--drives is followed by no file"));
+    }
+    return argument;
+}
+
+static void run(const struct session *session, uint32_t drives) {
+    measured_power_on(drives);
     for (size_t i = 0; i < session->count; i++)
         measured_event(&session->records[i]);
 }
 
-static void run_all(char **names) {
+static void run_all(char **arguments) {
     size_t counts[KINDS] = {0};
-    for (; *names != NULL; names++) {
-        struct session session = load(*names);
-        run(&session);
+    uint32_t drives = 1;
+    const char *name;
+    while ((name = next_file(&arguments, &drives)) != NULL) {
+        struct session session = load(name);
+        run(&session, drives);
         for (size_t i = 0; i < session.count; i++)
             counts[session.records[i].kind]++;
         free(session.records);
@@ -82,14 +97,16 @@ static double nanoseconds(void) {
     return (double)now.tv_sec * 1e9 + (double)now.tv_nsec;
 }
 
-static void time_all(size_t times, char **names) {
+static void time_all(size_t times, char **arguments) {
     double spent = 0;
     double events = 0;
-    for (; *names != NULL; names++) {
-        struct session session = load(*names);
+    uint32_t drives = 1;
+    const char *name;
+    while ((name = next_file(&arguments, &drives)) != NULL) {
+        struct session session = load(name);
         double start = nanoseconds();
         for (size_t i = 0; i < times; i++)
-            run(&session);
+            run(&session, drives);
         spent += nanoseconds() - start;
         events += (double)session.count * (double)times;
         free(session.records);

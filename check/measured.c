@@ -32,8 +32,8 @@ static struct {
 const size_t measured_state_size = sizeof lent.state;
 const size_t measured_memory_size = sizeof lent.memory;
 
-void measured_power_on(void) {
-    BRIDGE(power_on)(&lent.state, false, MEMORY_PAGE);
+void measured_power_on(uint32_t drives) {
+    BRIDGE(power_on)(&lent.state, false, MEMORY_PAGE, drives);
 }
 
 uint64_t measured_event(const struct record *record) {

@@ -16,7 +16,7 @@ enum {
 extern const size_t measured_state_size;
 extern const size_t measured_memory_size;
 
-void measured_power_on(void);
+void measured_power_on(uint32_t drives);
 uint64_t measured_event(const struct record *record);
 
 /* Calls plain_copy, from the memory to the reply. */

@@ -14,7 +14,8 @@ enum {
     CONFIGURED = 2,
     SIGNATURE_ADDRESS = 0x04,
     SIGNATURE_AT_POWER_ON = 0x24,
-    FIRST_WRITABLE = 2
+    FIRST_WRITABLE = 2,
+    TWO_DRIVES = 2
 };
 
 /* bmRequestType: USB 2.0, table 9-2. */
@@ -241,8 +242,8 @@ static uint32_t get_status(const struct second_bridge *bridge, const struct requ
     return reply_with(request, halt);
 }
 
-static uint32_t get_max_lun(const struct request *request) {
-    static const uint8_t last_lun = 0;
+static uint32_t get_max_lun(const struct second_bridge *bridge, const struct request *request) {
+    uint8_t last_lun = bridge->last_lun;
     if (!fields_are(request, 0, 0, 1))
         return SECOND_UNKNOWN_REQUEST;
     return reply_with(request, &last_lun);
@@ -376,7 +377,7 @@ static uint64_t serve(struct second_bridge *bridge, unsigned pair, const struct 
     case GET_STATUS:
         return get_status(bridge, request);
     case GET_MAX_LUN:
-        return get_max_lun(request);
+        return get_max_lun(bridge, request);
     case MASS_STORAGE_RESET:
         return reset_command(bridge, request, true);
     case LOAD_CONFIG_DATA:
@@ -425,8 +426,9 @@ static uint8_t host_direction(uint8_t flags, uint32_t length) {
     return flags == FLAGS_IN ? DIRECTION_IN : DIRECTION_OUT;
 }
 
-static bool meaningful(const uint8_t *packet) {
-    return (packet[PACKET_FLAGS] & ~FLAGS_IN) == 0 && packet[PACKET_LUN] == 0 &&
+/* The whole LUN byte counts: 0x10 and 0x11 name no drive. */
+static bool meaningful(const struct second_bridge *bridge, const uint8_t *packet) {
+    return (packet[PACKET_FLAGS] & ~FLAGS_IN) == 0 && packet[PACKET_LUN] <= bridge->last_lun &&
            packet[PACKET_BLOCK_LENGTH] >= 1 && packet[PACKET_BLOCK_LENGTH] <= BLOCK_LENGTH;
 }
 
@@ -443,9 +445,11 @@ static bool recognised(const uint8_t *block, uint8_t block_length, uint8_t signa
            direction == DIRECTION_IN;
 }
 
-static uint16_t select_operation(const uint8_t *block) {
+/* The drive is the LUN's, unless the block overrides it. */
+static uint16_t select_operation(const uint8_t *block, uint8_t lun) {
     uint8_t device = block[BLOCK_SELECTED] & DEVICE_SELECTED ? block[BLOCK_DEVICE] : DEVICE_ONES;
-    uint8_t dev = block[BLOCK_ACTION] & DEV_OVERRIDE ? block[BLOCK_DEVICE] & DEV_BIT : 0;
+    uint8_t dev =
+        block[BLOCK_ACTION] & DEV_OVERRIDE ? block[BLOCK_DEVICE] & DEV_BIT : lun * DEV_BIT;
     return (uint16_t)(OPERATION_SELECT | (device & ~DEV_BIT) | dev);
 }
 
@@ -456,13 +460,14 @@ static uint16_t transfer_operation(uint8_t action, uint8_t direction) {
 }
 
 /* Writes into a row with room for eleven and returns the end of what it wrote. */
-static uint16_t *plan(const uint8_t *restrict block, uint8_t direction, uint16_t *restrict row) {
+static uint16_t *plan(const uint8_t *restrict block, uint8_t lun, uint8_t direction,
+                      uint16_t *restrict row) {
     uint8_t action = block[BLOCK_ACTION];
     uint8_t selected = block[BLOCK_SELECTED];
     if (!(action & POLL_OVERRIDE))
         *row++ = OPERATION_POLL;
     if (action & TASK_FILE_READ) {
-        *row++ = select_operation(block);
+        *row++ = select_operation(block, lun);
         for (unsigned r = 0; r < REGISTERS_READ; r++)
             if (selected >> r & 1)
                 *row++ = (uint16_t)(OPERATION_READ + r * NEXT_REGISTER);
@@ -472,11 +477,11 @@ static uint16_t *plan(const uint8_t *restrict block, uint8_t direction, uint16_t
         if (selected >> r & 1)
             *row++ = (uint16_t)(OPERATION_WRITE + r * NEXT_REGISTER + block[BLOCK_CONTENTS + r]);
     if (!(action & DEVICE_SELECTION_OVERRIDE))
-        *row++ = select_operation(block);
+        *row++ = select_operation(block, lun);
     if (selected & COMMAND_SELECTED)
         *row++ = (uint16_t)(WRITE_COMMAND + block[BLOCK_CONTENTS + 7]);
     if (action & DEVICE_SELECTION_OVERRIDE)
-        *row++ = select_operation(block);
+        *row++ = select_operation(block, lun);
     if (direction != DIRECTION_NONE)
         *row++ = transfer_operation(action, direction);
     *row++ = READ_STATUS;
@@ -485,11 +490,11 @@ static uint16_t *plan(const uint8_t *restrict block, uint8_t direction, uint16_t
 
 /* Returns how many it handed out, 0 where they do not fit. In a row that may be too short the plan
  * is made aside, so that a refusal leaves the row alone. */
-static size_t hand_out_plan(const uint8_t *block, uint8_t direction, uint16_t *operations,
-                            size_t operations_len) {
+static size_t hand_out_plan(const uint8_t *block, uint8_t lun, uint8_t direction,
+                            uint16_t *operations, size_t operations_len) {
     uint16_t aside[MOST_OPERATIONS];
     uint16_t *row = operations_len < MOST_OPERATIONS ? aside : operations;
-    size_t count = (size_t)(plan(block, direction, row) - row);
+    size_t count = (size_t)(plan(block, lun, direction, row) - row);
     if (row == operations)
         return count;
     if (count > operations_len)
@@ -519,12 +524,14 @@ static uint32_t take_command(struct second_bridge *bridge, const uint8_t *packet
             bridge->halts |= pipe_of(direction);
         return await_status(bridge, length, STATUS_FAILED);
     }
-    size_t count = hand_out_plan(block, direction, operations, operations_len);
+    uint8_t lun = packet[PACKET_LUN];
+    size_t count = hand_out_plan(block, lun, direction, operations, operations_len);
     if (count == 0)
         return SECOND_OPERATION_ROOM;
     bridge->tag = tag;
     bridge->residue = length;
-    bridge->direction = direction;
+    bridge->busy.direction = direction;
+    bridge->busy.lun = lun;
     bridge->phase = SECOND_BUSY;
     return handed_out((uint32_t)count);
 }
@@ -540,7 +547,7 @@ static uint32_t take_packet(struct second_bridge *bridge, const uint8_t *packet,
         return SECOND_WRONG_PHASE;
     if (packet_len != PACKET_LENGTH || load32(packet) != PACKET_SIGNATURE)
         return stop(bridge, SECOND_PACKET_NOT_VALID);
-    if (!meaningful(packet))
+    if (!meaningful(bridge, packet))
         return stop(bridge, SECOND_PACKET_NOT_MEANINGFUL);
     return take_command(bridge, packet, operations, operations_len);
 }
@@ -579,9 +586,9 @@ uint32_t second_report(struct second_bridge *bridge, uint8_t direction, uint8_t 
     if (direction > DIRECTION_OUT || failed > 1 || (direction == DIRECTION_NONE && amount != 0))
         return SECOND_REPORT_MALFORMED;
     uint32_t length = bridge->residue;
-    bool disagrees = amount > length || (amount != 0 && direction != bridge->direction);
+    bool disagrees = amount > length || (amount != 0 && direction != bridge->busy.direction);
     if (length != 0 && (disagrees || amount < length))
-        bridge->halts |= pipe_of(bridge->direction);
+        bridge->halts |= pipe_of(bridge->busy.direction);
     if (disagrees)
         return await_status(bridge, length, STATUS_PHASE_ERROR);
     return await_status(bridge, length - amount, failed);
@@ -604,19 +611,21 @@ uint32_t second_status(struct second_bridge *bridge, uint8_t *reply, size_t repl
     return handed_out(STATUS_LENGTH);
 }
 
-uint32_t second_power_on(struct second_bridge *bridge, bool bus_powered, uint32_t page) {
+uint32_t second_power_on(struct second_bridge *bridge, bool bus_powered, uint32_t page,
+                         uint32_t drives) {
     memset(bridge, 0, sizeof *bridge);
     bridge->bus_powered = bus_powered;
+    bridge->last_lun = drives == TWO_DRIVES;
     bridge->page_mask = (uint8_t)(second_page(page) - 1);
     bridge->bytes[SIGNATURE_ADDRESS] = SIGNATURE_AT_POWER_ON;
     return SECOND_DONE;
 }
 
 uint32_t second_power_on_with_store(struct second_bridge *bridge, bool bus_powered, uint32_t page,
-                                    const uint8_t *store, size_t store_len) {
+                                    uint32_t drives, const uint8_t *store, size_t store_len) {
     struct second_settings settings;
     uint8_t refusal = second_read_store(store, store_len, &settings);
-    second_power_on(bridge, bus_powered, refusal ? page : settings.page);
+    second_power_on(bridge, bus_powered, refusal ? page : settings.page, drives);
     if (!refusal)
         memcpy(bridge->bytes + FIRST_WRITABLE, settings.bytes, sizeof settings.bytes);
     return refusal;
@@ -629,6 +638,10 @@ uint32_t second_bus_reset(struct second_bridge *bridge) {
 
 uint8_t second_phase(const struct second_bridge *bridge) {
     return bridge->phase;
+}
+
+uint8_t second_lun(const struct second_bridge *bridge) {
+    return bridge->phase == SECOND_BUSY ? bridge->busy.lun : SECOND_NO_LUN;
 }
 
 uint8_t second_configuration(const struct second_bridge *bridge) {

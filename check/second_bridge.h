@@ -49,6 +49,11 @@ enum {
     SECOND_HALT_IN = 0x02
 };
 
+/* What second_lun hands out in every phase but busy. */
+enum {
+    SECOND_NO_LUN = 0xFF
+};
+
 /* What second_held hands out: so many bytes, or that more than a packet's came. */
 enum {
     SECOND_HELD_MOST = 31,
@@ -64,14 +69,18 @@ struct second_bridge {
     uint32_t tag;     /* busy, status waiting */
     uint32_t residue; /* status waiting; while busy L, of which nothing has moved yet */
     union {
-        uint8_t direction; /* busy, as reports number it */
-        uint8_t status;    /* status waiting */
+        struct {
+            uint8_t direction : 4; /* as reports number it */
+            uint8_t lun : 4;
+        } busy;
+        uint8_t status; /* status waiting */
     };
     uint8_t phase;
     uint8_t halts;
     uint8_t configuration;
-    uint8_t bus_powered; /* fixed at power-on, and so is the next */
-    uint8_t page_mask;   /* the page size less one: the bits of an address inside its page */
+    uint8_t last_lun : 1; /* fixed at power-on, and so are the next two; 1 with two drives */
+    uint8_t bus_powered : 1;
+    uint8_t page_mask; /* the page size less one: the bits of an address inside its page */
     uint8_t bytes[SECOND_CONFIGURATION_BYTES];
     uint8_t held; /* how much has come in bursts since the last packet */
     uint8_t fragments[SECOND_HELD_MOST];
@@ -81,9 +90,10 @@ struct second_bridge {
  * operations handed out. A control request's has 32 bits more: bit 48 is set where the reply is a
  * part of the lent memory, and bits 32 to 47 are then its start there. A slice of length 0 may be
  * NULL. */
-uint32_t second_power_on(struct second_bridge *bridge, bool bus_powered, uint32_t page);
+uint32_t second_power_on(struct second_bridge *bridge, bool bus_powered, uint32_t page,
+                         uint32_t drives);
 uint32_t second_power_on_with_store(struct second_bridge *bridge, bool bus_powered, uint32_t page,
-                                    const uint8_t *store, size_t store_len);
+                                    uint32_t drives, const uint8_t *store, size_t store_len);
 uint32_t second_bus_reset(struct second_bridge *bridge);
 uint64_t second_control(struct second_bridge *bridge, const uint8_t *setup, size_t setup_len,
                         const uint8_t *host, size_t host_len, uint8_t *memory, size_t memory_len,
@@ -97,6 +107,7 @@ uint32_t second_report(struct second_bridge *bridge, uint8_t direction, uint8_t 
 uint32_t second_status(struct second_bridge *bridge, uint8_t *reply, size_t reply_len);
 
 uint8_t second_phase(const struct second_bridge *bridge);
+uint8_t second_lun(const struct second_bridge *bridge);
 uint8_t second_configuration(const struct second_bridge *bridge);
 uint8_t second_halts(const struct second_bridge *bridge);
 uint8_t second_held(const struct second_bridge *bridge);

@@ -20,16 +20,18 @@ static uint64_t store(thrandue_image *image, const struct second_bridge *bridge,
     return outcome;
 }
 
-uint32_t thrandue_power_on(thrandue_image *image, bool bus_powered, uint32_t page) {
+uint32_t thrandue_power_on(thrandue_image *image, bool bus_powered, uint32_t page,
+                           uint32_t drives) {
     struct second_bridge bridge = load(image);
-    return store(image, &bridge, second_power_on(&bridge, bus_powered, page));
+    return store(image, &bridge, second_power_on(&bridge, bus_powered, page, drives));
 }
 
 uint32_t thrandue_power_on_with_store(thrandue_image *image, bool bus_powered, uint32_t page,
-                                      const uint8_t *records, size_t records_len) {
+                                      uint32_t drives, const uint8_t *records, size_t records_len) {
     struct second_bridge bridge = load(image);
-    return store(image, &bridge,
-                 second_power_on_with_store(&bridge, bus_powered, page, records, records_len));
+    return store(
+        image, &bridge,
+        second_power_on_with_store(&bridge, bus_powered, page, drives, records, records_len));
 }
 
 uint32_t thrandue_bus_reset(thrandue_image *image) {
@@ -77,6 +79,11 @@ uint32_t thrandue_status(thrandue_image *image, uint8_t *reply, size_t reply_len
 uint8_t thrandue_phase(const thrandue_image *image) {
     struct second_bridge bridge = load(image);
     return second_phase(&bridge);
+}
+
+uint8_t thrandue_lun(const thrandue_image *image) {
+    struct second_bridge bridge = load(image);
+    return second_lun(&bridge);
 }
 
 uint8_t thrandue_configuration(const thrandue_image *image) {

@@ -18,6 +18,12 @@ static size_t *named_size(struct bench_options *options, const char *name) {
     return strcmp(name, "--operations") == 0 ? &options->operations : NULL;
 }
 
+static uint32_t *named_number(struct bench_options *options, const char *name) {
+    if (strcmp(name, "--page") == 0)
+        return &options->page;
+    return strcmp(name, "--drives") == 0 ? &options->drives : NULL;
+}
+
 static bool *named_fact(struct bench_options *options, const char *name) {
     if (strcmp(name, "--bus-powered") == 0)
         return &options->bus_powered;
@@ -28,7 +34,7 @@ struct bench_arguments bench_arguments(char **argv, const char *help) {
     return (struct bench_arguments){
         .rest = argv + 1,
         .help = help,
-        .options = {.memory = 2048, .reply = 4096, .operations = 11, .page = 256},
+        .options = {.memory = 2048, .reply = 4096, .operations = 11, .page = 256, .drives = 1},
     };
 }
 
@@ -39,13 +45,14 @@ const char *bench_argument(struct bench_arguments *arguments) {
         if (strcmp(argument, "--help") == 0)
             exit(command_help(arguments->help));
         size_t *size = named_size(&arguments->options, argument);
+        uint32_t *number = named_number(&arguments->options, argument);
         bool *fact = named_fact(&arguments->options, argument);
         if (size != NULL)
             *size = command_size_after(&arguments->rest, argument);
+        else if (number != NULL)
+            *number = command_number_after(&arguments->rest, argument);
         else if (fact != NULL)
             *fact = true;
-        else if (strcmp(argument, "--page") == 0)
-            arguments->options.page = command_number_after(&arguments->rest, argument);
         else if (strcmp(argument, "--store") == 0)
             arguments->options.store = command_file_after(&arguments->rest, argument);
         else
@@ -66,12 +73,13 @@ static uint32_t power_on(struct bench *bench) {
     struct command_file *store = &bench->store;
     if (options->store == NULL) {
         *store = (struct command_file){0};
-        return thrandue_power_on(bench->image, options->bus_powered, options->page);
+        return thrandue_power_on(bench->image, options->bus_powered, options->page,
+                                 options->drives);
     }
     if (!command_read(options->store, store))
         exit(EXIT_MISUSED);
     return thrandue_power_on_with_store(bench->image, options->bus_powered, options->page,
-                                        store->bytes, store->length);
+                                        options->drives, store->bytes, store->length);
 }
 
 uint8_t bench_open(struct bench *bench, struct bench_options options) {

@@ -18,6 +18,7 @@ struct bench_options {
     size_t operations;
     bool bus_powered;
     uint32_t page;
+    uint32_t drives;
     const char *store;
     bool bursts;
 };
@@ -46,8 +47,9 @@ struct bench_arguments {
     "  --bus-powered   the dock is bus powered\n"                                                  \
     "  --page N        bytes in a page of the memory part, 32, 64, 128 or 256 (256); another\n"    \
     "                  number is taken as 32\n"                                                    \
+    "  --drives N      drives in the dock, 1 or 2 (1); another number is taken as 1\n"             \
     "  --store FILE    the dock is powered on with the settings of this store, whose page size\n"  \
-    "                  replaces N\n"                                                               \
+    "                  replaces that of --page\n"                                                  \
     "  --bursts        records of kind 6 are bursts of a packet, of kind 7 end marks\n"            \
     "  --help          this text\n"
 

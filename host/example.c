@@ -45,7 +45,8 @@ static const struct arrival arrivals[] = {
 };
 
 enum {
-    MEMORY_PAGE = 256 /* of the part that is fitted, by its data sheet */
+    MEMORY_PAGE = 256, /* of the part that is fitted, by its data sheet */
+    DRIVES = 1
 };
 
 struct dock {
@@ -121,7 +122,7 @@ static void fit(struct dock *dock) {
 int main(void) {
     static struct dock dock;
     fit(&dock);
-    thrandue_power_on(&dock.image, false, MEMORY_PAGE);
+    thrandue_power_on(&dock.image, false, MEMORY_PAGE, DRIVES);
     for (size_t i = 0; i < sizeof arrivals / sizeof arrivals[0]; i++)
         show(&dock, arrivals[i].source, take(&dock, &arrivals[i]));
     return 0;

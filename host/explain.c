@@ -10,7 +10,8 @@
 enum {
     SETUP_FIELDS = 3,
     KIND_TRANSFER = 0x03,
-    TRANSFER_IN = 0x01
+    TRANSFER_IN = 0x01,
+    TWO_DRIVES = 2
 };
 
 /* What a number is called; a row ends in one without text. */
@@ -369,9 +370,23 @@ static void show_answer(unsigned answer) {
     printf(" | %u %s", answer, meaning == NULL ? "not an answer of the paper" : meaning);
 }
 
-static void show_state(const thrandue_image *image) {
+/* The phase, of two drives with the one that the bridge is busy with; a LUN that the phase has no
+ * drive for is told as it is. */
+static void show_phase(const thrandue_image *image, bool names_drives) {
+    unsigned phase = thrandue_phase(image);
+    unsigned lun = thrandue_lun(image);
+    bool busy = phase == THRANDUE_BUSY;
+    show_word(phases, "phase", 2, phase);
+    if (busy && names_drives)
+        printf(" with drive %u", lun);
+    else if (lun != (busy ? 0 : THRANDUE_NO_LUN))
+        printf(", LUN 0x%02X", lun);
+}
+
+static void show_state(const struct bench *bench) {
+    const thrandue_image *image = bench->image;
     printf(" | configuration %u", (unsigned)thrandue_configuration(image));
-    show_word(phases, "phase", 2, thrandue_phase(image));
+    show_phase(image, bench->options.drives == TWO_DRIVES);
     show_word(halts, "halts", 2, thrandue_halts(image));
     show_held(thrandue_held(image));
     putchar('\n');
@@ -381,7 +396,7 @@ void explain_store(const struct bench *bench, uint8_t answer) {
     size_t length = bench->store.length;
     printf("    store, %zu byte%s", length, length == 1 ? "" : "s");
     show_answer(answer);
-    show_state(bench->image);
+    show_state(bench);
 }
 
 void explain_event(const struct bench *bench, const struct record *record, uint64_t outcome) {
@@ -391,5 +406,5 @@ void explain_event(const struct bench *bench, const struct record *record, uint6
     show_answer(answer);
     if (answer == THRANDUE_DONE)
         explain_handed_out(bench, record, outcome);
-    show_state(bench->image);
+    show_state(bench);
 }

@@ -116,6 +116,7 @@ static const struct field command_fields[] = {
     {"tag", 4, 4, NEEDED, HEX, NULL},
     {"length", 8, 4, NEEDED, DECIMAL, NULL},
     {"direction", 12, 1, NEEDED, HEX, flag_words},
+    {"lun", 13, 1, SPARED, HEX, NULL},
     {"action", 17, 1, NEEDED, HEX, NULL},
     {"select", 18, 1, NEEDED, HEX, NULL},
     {"byte4", 19, 1, SPARED, HEX, NULL},

@@ -102,9 +102,10 @@ enum {
 
 /* The image becomes that of a bridge at power-on, whatever it held, in a dock that is bus powered
  * or not and whose memory part has pages of 32, 64, 128 or 256 bytes; another number is taken as
- * 32, the safe one. A memory write that crosses a page of that size is answered CROSSES_PAGE.
- * Answers DONE. */
-uint32_t thrandue_power_on(thrandue_image *image, bool bus_powered, uint32_t page);
+ * 32, the safe one. A memory write that crosses a page of that size is answered CROSSES_PAGE. It
+ * holds two drives where `drives` is 2, and one where it is any other number: Get Max LUN replies 1
+ * or 0, and a packet for a LUN above that is answered NOT_MEANINGFUL. Answers DONE. */
+uint32_t thrandue_power_on(thrandue_image *image, bool bus_powered, uint32_t page, uint32_t drives);
 
 /* As thrandue_power_on, with the settings of a store, and this is the only way by which settings
  * reach the bridge. A store is a run of records, each its payload's length (2 bytes, low first),
@@ -121,7 +122,7 @@ uint32_t thrandue_power_on(thrandue_image *image, bool bus_powered, uint32_t pag
  *   PAYLOAD_LENGTH    not the 14 bytes of 0x0101, or the 15 of 0x0102
  *   NO_RECORD         the store is empty */
 uint32_t thrandue_power_on_with_store(thrandue_image *image, bool bus_powered, uint32_t page,
-                                      const uint8_t *store, size_t store_len);
+                                      uint32_t drives, const uint8_t *store, size_t store_len);
 
 /* Configuration 0, awaiting a command, no halts; the configuration bytes and the memory stay.
  * Answers DONE. */
@@ -163,6 +164,13 @@ enum {
     THRANDUE_STOPPED_RESET = 4 /* stopped, and a Mass Storage Reset has come */
 };
 uint8_t thrandue_phase(const thrandue_image *image);
+
+/* The LUN that the bridge is busy with, 0 or 1: the drive that is to carry out the operations, for
+ * a port that drives two cables. In any other phase there is none. */
+enum {
+    THRANDUE_NO_LUN = 0xFF
+};
+uint8_t thrandue_lun(const thrandue_image *image);
 
 /* The USB configuration: 0 or 2. */
 uint8_t thrandue_configuration(const thrandue_image *image);

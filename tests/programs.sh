@@ -5,6 +5,8 @@ strict='-std=c11 -Wall -Wextra -Wpedantic -Werror -Ihost'
 sanitized='-O1 -g -fsanitize=address,undefined -fno-sanitize-recover=all'
 # Other numbers than the four page sizes: around and between them, and those that a part of the number would be taken for.
 other_pages='0 1 31 33 63 65 96 127 129 160 192 255 257 512 8256 65568 65792 0x10040 4294967295 4294967328 4294967552 18446744073709551615'
+# Other numbers of drives than 2, which all say one: around it, and those of which a part would be taken for it.
+other_drives='0 1 3 4 18 34 130 258 514 4098 32770 65538 0x20000 0x1000002 2147483650 4294967294 4294967295 4294967298 18446744073709551615'
 
 # ends STATUS MESSAGE COMMAND..: ends so, and says so on standard error.
 ends() {
