@@ -273,7 +273,7 @@ fn make_reads(select: u8, action: u8, selection: u8, block: &[u8], operations: &
     put_registers(selection, block, false, 8, operations, at)
 }
 
-// The action and the selection are read once: what is stored in the row cannot change them.
+// Action, selection and the select's operand are found once: what is stored in the row cannot change them.
 fn make(
     lun: Lun,
     block: &[u8],

@@ -26,7 +26,7 @@ use Rattle.rules.specs.Packets.{commandOf, blockOf, directionOf, lunOf, 
 use Rattle.rules.specs.Operations.{codes, action, operationsOf}
 use Rattle.rules.specs.Answers.{packetAnswer}
 use Rattle.rules.specs.Step.{Event, BusReset, Control, Packet, Report, StatusRequest, Burst, EndMark, Outcome, packetMakes, packetAnswers, packetChanges, answer, done, damaged, given, changing, change, step, rules, after, reached}
-use Rattle.rules.specs.Demands.Drives.{BusyKeepsLun, meaningfulBefore, packetBefore, stepBefore, before, OneDriveIsBefore}
+use Rattle.rules.specs.Demands.Drives.{BusyKeepsLun, meaningfulBefore, packetBefore, stepBefore, asBefore, OneDriveIsBefore}
 use Rattle.rules.proofs.Demands.Operations.{counted}
 use Rattle.rules.proofs.Demands.Makers.{codes-length, packet-leaves}
 use Rattle.rules.proofs.Demands.Packets.{begun, drive-held}
@@ -189,15 +189,15 @@ step-before w (StatusRequest room) single = refl
 step-before w (Burst bytes) single = refl
 step-before w (EndMark room) single = outcome-before w (w .held) room single _ refl
 
-run-before : (w : World) (history : List Event) → w .bridge .dock .drives ≡ One → after rules w history ≡ after before w history
+run-before : (w : World) (history : List Event) → w .bridge .dock .drives ≡ One → after rules w history ≡ after asBefore w history
 run-before w [] single = refl
 run-before w (e ∷ es) single =
     let kept : step w e .next .bridge .dock .drives ≡ One = ap (λ (d : Dock). d .drives) (run-fixed w (e ∷ [])) ∙ single in
-    run-before (step w e .next) es kept ∙ ap (λ (o : Outcome World). after before (o .next) es) (step-before w e single)
+    run-before (step w e .next) es kept ∙ ap (λ (o : Outcome World). after asBefore (o .next) es) (step-before w e single)
 
 pub one-drive-is-before : OneDriveIsBefore
 one-drive-is-before start memory history e single =
     let w : World = reached rules start memory history in
-    let same : w ≡ reached before start memory history = run-before (powered start memory) history single in
+    let same : w ≡ reached asBefore start memory history = run-before (powered start memory) history single in
     let kept : w .bridge .dock .drives ≡ One = ap (λ (d : Dock). d .drives) (run-fixed (powered start memory) history) ∙ single in
     step-before w e kept ∙ ap (λ (v : World). stepBefore v e) same

@@ -98,11 +98,11 @@ stepBefore w (StatusRequest room) = step w (StatusRequest room)
 stepBefore w (Burst bytes) = step w (Burst bytes)
 stepBefore w (EndMark room) = packetBefore w (w .held) room
 
-abbrev pub before : Machine
-before = record { State = World; on = powered; shows = λ w. w; takes = stepBefore }
+abbrev pub asBefore : Machine
+asBefore = record { State = World; on = powered; shows = λ w. w; takes = stepBefore }
 
 -- A one-drive dock is the dock of before: after any history each event has the same outcome, answer, operations and state.
 abbrev pub OneDriveIsBefore : Type 0
 OneDriveIsBefore =
     (start : Start) (memory : List ℕ) (history : List Event) (e : Event) → start .dock .drives ≡ One
-    → step (reached rules start memory history) e ≡ stepBefore (reached before start memory history) e
+    → step (reached rules start memory history) e ≡ stepBefore (reached asBefore start memory history) e
