@@ -121,7 +121,7 @@ put (Sets c) image = calm (set image 24 (one c))
 put Awaits image = set image 27 0
 put Resets image = dropped (set image 27 0)
 put Drops image = dropped image
-put (Begins direction lun tag l) image = phased 1 (one (inward direction) + 2 * lunNumber lun) (numbered tag l image)
+put (Begins direction lun tag l) image = numbered tag l (phased 1 (one (inward direction) + 2 * lunNumber lun) image)
 put (Finishes direction halts status tag residue) image =
     let now = phased 2 status (numbered tag residue image) in
     cond halts (marked direction 1 now) now

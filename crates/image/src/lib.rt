@@ -337,12 +337,12 @@ fn put_calm(image: &mut [u8; IMAGE])
     drop_held(image);
 }
 
-// A command begins.
+// A command begins. Its numbers are stored last: behind them the phase's last store was shared with that of a stop, by a jump.
 fn put_begun(image: &mut [u8; IMAGE], direction: Direction, lun: Lun, tag: u32, length: u32)
     ensures { λ u. ⌜ now (image .exit) ≡ put (Change.Begins direction lun tag length) (now (image .entry)) ⌝ }
 {
-    put_numbers(image, tag, length);
     put_phase(image, BUSY, direction.is_in() as u8 + 2 * lun.number());
+    put_numbers(image, tag, length);
 }
 
 // A command finishes, and the pipe of its direction is halted or not.

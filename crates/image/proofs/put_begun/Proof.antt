@@ -6,9 +6,6 @@ use Rattle.rules.proofs.Luns.{lun-most}
 use Rattle.image.proofs.put_begun.Statement.{statement}
 use Rattle.image.proofs.put_begun.Tie as tie
 
-put-numbers-requires : tie.Need-put-numbers-requires
-put-numbers-requires c κs = search needs
-
 is-in-requires : tie.Need-is-in-requires
 is-in-requires c κs = search needs
 
@@ -19,26 +16,29 @@ number-requires : tie.Need-number-requires
 number-requires c κs = search needs
 
 mul-put-phase : tie.Need-mul-put-phase
-mul-put-phase c = omega (arith, c .number .ensures, lun-most (c .before .before .before .before .before .args .lun))
+mul-put-phase c = omega (arith, c .number .ensures, lun-most (c .before .before .before .args .lun))
 
 add-put-phase : tie.Need-add-put-phase
-add-put-phase c = omega (arith, c .number .ensures, lun-most (c .before .before .before .before .before .args .lun), bool-most (c .before .is-in .result))
+add-put-phase c = omega (arith, c .number .ensures, lun-most (c .before .before .before .args .lun), bool-most (c .before .is-in .result))
 
 put-phase-requires : tie.Need-put-phase-requires
 put-phase-requires c κs = search needs
 
+put-numbers-requires : tie.Need-put-numbers-requires
+put-numbers-requires c κs = search needs
+
 returns : tie.Need-returns
-returns c = rw (c .put-phase .ensures, c .before .before .before .before .put-numbers .ensures, c .before .number .ensures, bool-byte, c .before .before .is-in .ensures)
+returns c = rw (c .put-numbers .ensures, c .before .before .put-phase .ensures, c .before .before .before .number .ensures, bool-byte, c .before .before .before .before .is-in .ensures)
 
 pub put-begun-spec : {M : Type 1} → statement M
 put-begun-spec =
     tie.close
     (tie.spec
-    put-numbers-requires
     is-in-requires
     cast-put-phase
     number-requires
     mul-put-phase
     add-put-phase
     put-phase-requires
+    put-numbers-requires
     returns)
