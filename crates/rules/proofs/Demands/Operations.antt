@@ -199,12 +199,12 @@ read-alike z z' p w v r m m' s = refl
 other : (m n : ℕ) → eqb m n ≡ false → m ≡ n → ⊥
 other m n h = eqb-false m n h
 
-pub poll-bit : (lun : Lun) → PollBit (operationsOf lun)
+pub poll-bit : PollBit operationsOf
 poll-bit lun block block' l d h =
     rw (made-of lun block l d, made-set lun l d h, select-kept lun h (other 5 2 refl), transfer-kept d h (other 3 2 refl) (other 4 2 refl) (other 6 2 refl) (other 7 2 refl), h .clear)
     (poll-first _ _ _ _ _ _ _)
 
-pub select-last : (lun : Lun) → SelectLast (operationsOf lun)
+pub select-last : SelectLast operationsOf
 select-last lun block block' l d h =
     rw (made-of lun block l d, made-set lun l d h, select-kept lun h (other 5 1 refl), transfer-kept d h (other 3 1 refl) (other 4 1 refl) (other 6 1 refl) (other 7 1 refl), h .clear)
     ((λ reading. rw reading (read-alike _ _ _ _ _ _ _ _ _)), (λ writing. (selectByte lun block, rw writing (select-moves _ _ _ _ _ _))))
@@ -241,29 +241,29 @@ lun-bit block l d = (
 -- ---- the transfer
 
 -- a bit on which only the transfer's operand depends, by n
-weighs : (lun : Lun) (k n : ℕ) → ((a : ℕ → ℕ) → made (put k a) ≡ made a) → (5 ≡ k → ⊥)
+weighs : (k n : ℕ) → ((a : ℕ → ℕ) → made (put k a) ≡ made a) → (5 ≡ k → ⊥)
     → ((block block' : List ℕ) (d : Direction) → Sets k block block' → transferByte (action block') d ≡ transferByte (action block) d + n)
-    → Weighs (operationsOf lun) k n
-weighs lun k n same five more block block' l d h =
+    → Weighs operationsOf k n
+weighs k n same five more lun block block' l d h =
     rw (made-of lun block l d, made-set lun l d h ∙ (λ i. same (bits block) i (rest block) l (select-kept lun h five i) (more block block' d h i)))
     ((λ reading. rw reading (read-alike _ _ _ _ _ _ _ _ _)), (λ writing. (transferByte (action block) d, rw writing (transfer-changes _ _ _ _ _ _ _ _))))
 
-pub transfer-bits : (lun : Lun) → TransferBits (operationsOf lun)
-transfer-bits lun = (
-  weighs lun 6 2 (λ a. refl) (other 5 6 refl) (λ b b' d h. rw (put-bits h 3, put-bits h 4, put-bits h 6, put-bits h 7, h .clear) (omega arith)),
-  weighs lun 4 4 (λ a. refl) (other 5 4 refl) (λ b b' d h. rw (put-bits h 3, put-bits h 4, put-bits h 6, put-bits h 7, h .clear) (omega arith)),
-  weighs lun 3 8 (λ a. refl) (other 5 3 refl) (λ b b' d h. rw (put-bits h 3, put-bits h 4, put-bits h 6, put-bits h 7, h .clear) (omega arith)),
-  weighs lun 7 16 (λ a. refl) (other 5 7 refl) (λ b b' d h. rw (put-bits h 3, put-bits h 4, put-bits h 6, put-bits h 7, h .clear) (omega arith)),
+pub transfer-bits : TransferBits operationsOf
+transfer-bits = (
+  weighs 6 2 (λ a. refl) (other 5 6 refl) (λ b b' d h. rw (put-bits h 3, put-bits h 4, put-bits h 6, put-bits h 7, h .clear) (omega arith)),
+  weighs 4 4 (λ a. refl) (other 5 4 refl) (λ b b' d h. rw (put-bits h 3, put-bits h 4, put-bits h 6, put-bits h 7, h .clear) (omega arith)),
+  weighs 3 8 (λ a. refl) (other 5 3 refl) (λ b b' d h. rw (put-bits h 3, put-bits h 4, put-bits h 6, put-bits h 7, h .clear) (omega arith)),
+  weighs 7 16 (λ a. refl) (other 5 7 refl) (λ b b' d h. rw (put-bits h 3, put-bits h 4, put-bits h 6, put-bits h 7, h .clear) (omega arith)),
 )
 
-pub transfer-way : (lun : Lun) → TransferWay (operationsOf lun)
+pub transfer-way : TransferWay operationsOf
 transfer-way lun block l writing positive =
     let t : ℕ = 2 * bits block 6 + 4 * bits block 4 + 8 * bits block 3 + 16 * bits block 7 in
     let outward : transferByte (action block) Out ≡ t = omega arith in
     let inwards : transferByte (action block) In ≡ t + 1 = omega arith in
     rw (made-of lun block l Out, made-of lun block l In, outward, inwards, writing, lt-ltb 0 l positive) (t, refl, transfer-changes _ _ _ _ _ _ _ _)
 
-pub transfer-needs-length : (lun : Lun) → TransferNeedsLength (operationsOf lun)
+pub transfer-needs-length : TransferNeedsLength operationsOf
 transfer-needs-length lun block l d writing positive =
     rw (made-of lun block 0 d, made-of lun block l d, writing, lt-ltb 0 l positive) (transferByte (action block) d, transfer-changes _ _ _ _ _ _ _ _)
 
@@ -300,7 +300,7 @@ unfolding arranged
 length-written true p w v r m s = simp length-append (omega arith)
 length-written false p w v r m s = simp length-append (omega arith)
 
-pub counted : (lun : Lun) → Counted (operationsOf lun)
+pub counted : Counted operationsOf
 counted lun block l d =
     let polls : Bool = not (bit 2 (action block)) in
     let write : ℕ → Operation = λ r. Write r (content block r) in
@@ -311,7 +311,7 @@ counted lun block l d =
           (omega arith, omega (arith, one-most polls, one-most (ltb 0 l)))),
     )
 
-pub listed : (lun : Lun) → Listed (operationsOf lun)
+pub listed : Listed operationsOf
 unfolding operationsOf
 listed lun block l d = (
   selectByte lun block,

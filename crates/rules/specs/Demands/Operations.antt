@@ -37,8 +37,9 @@ pub record Sets (k : ℕ) (block block' : List ℕ) : Type 0 where
   pub clear : bitOf k (action block) ≡ 0
   pub set : bitOf k (action block') ≡ 1
 
+-- the lists of a LUN, a block, L and the direction
 abbrev pub Lists : Type 0
-Lists = List ℕ → ℕ → Direction → List Operation
+Lists = Lun → List ℕ → ℕ → Direction → List Operation
 
 -- a block with action bit 0 clear, or set
 abbrev pub Writing : List ℕ → Type 0
@@ -51,27 +52,27 @@ Reading block = bitOf 0 (action block) ≡ 1
 -- below.) "Action bit 0 set: poll, select, reads of selected 0 to 7, rising."
 abbrev pub Listed : Lists → Type 0
 Listed ops =
-    (block : List ℕ) (l : ℕ) (d : Direction)
+    (lun : Lun) (block : List ℕ) (l : ℕ) (d : Direction)
     → (let polls = only (not (bit 2 (byte 2 block))) Poll in
     let write : ℕ → List Operation = λ r. only (bit r (byte 3 block)) (Write r (byte (5 + r) block)) in
     let read : ℕ → List Operation = λ r. only (bit r (byte 3 block)) (Read r) in
     (s : ℕ) × (t : ℕ)
-    × (Reading block → ops block l d ≡ polls ++ Select s ∷ [] ++ read 0 ++ read 1 ++ read 2 ++ read 3 ++ read 4 ++ read 5 ++ read 6 ++ read 7)
+    × (Reading block → ops lun block l d ≡ polls ++ Select s ∷ [] ++ read 0 ++ read 1 ++ read 2 ++ read 3 ++ read 4 ++ read 5 ++ read 6 ++ read 7)
     × (Writing block → bitOf 1 (byte 2 block) ≡ 0
-    → ops block l d
+    → ops lun block l d
     ≡ polls ++ write 0 ++ write 1 ++ write 2 ++ write 3 ++ write 4 ++ write 5 ++ Select s ∷ [] ++ write 7 ++ only (ltb 0 l) (Transfer t) ++ Read 7 ∷ []))
 
 -- "Poll, first, unless action bit 2 is set."
 abbrev pub PollBit : Lists → Type 0
-PollBit ops = (block block' : List ℕ) (l : ℕ) (d : Direction) → Sets 2 block block' → ops block l d ≡ Poll ∷ ops block' l d
+PollBit ops = (lun : Lun) (block block' : List ℕ) (l : ℕ) (d : Direction) → Sets 2 block block' → ops lun block l d ≡ Poll ∷ ops lun block' l d
 
 -- "With action bit 1 set, the select follows the place of write 7 instead." In a read block the bit does nothing.
 abbrev pub SelectLast : Lists → Type 0
 SelectLast ops =
-    (block block' : List ℕ) (l : ℕ) (d : Direction) → Sets 1 block block'
-    → (Reading block → ops block l d ≡ ops block' l d)
+    (lun : Lun) (block block' : List ℕ) (l : ℕ) (d : Direction) → Sets 1 block block'
+    → (Reading block → ops lun block l d ≡ ops lun block' l d)
     × (Writing block → (b : ℕ) × (let seven = only (selected block 7) (Write 7 (content block 7)) in
-    Differ (ops block l d) (ops block' l d) (Select b ∷ seven) (seven ++ Select b ∷ [])))
+    Differ (ops lun block l d) (ops lun block' l d) (Select b ∷ seven) (seven ++ Select b ∷ [])))
 
 -- the operand of each select in a list
 abbrev pub selectsIn : List Operation → List ℕ
@@ -85,7 +86,7 @@ selectsIn (Transfer operand ∷ os) = selectsIn os
 -- A block has one select, and of its bits request 4 says: "Drives built to the early ATA standards expect bits 7 and 5 of the device register to be
 -- one. When register 6 isn't selected .. It should be 0xA0 or 0xB0. When register 6 is selected the caller's byte stands, with only bit 4 replaced as
 -- before." And request 7: "where action bit 5 is clear the select's bit 4 is the LUN instead of 0".
-abbrev pub SelectBits : (Lun → Lists) → Type 0
+abbrev pub SelectBits : Lists → Type 0
 SelectBits ops =
     (lun : Lun) (block : List ℕ) (l : ℕ) (d : Direction)
     → (s : ℕ) × (selectsIn (ops lun block l d) ≡ s ∷ [])
@@ -98,14 +99,14 @@ abbrev pub device : List ℕ → ℕ
 device block = cond (selected block 6) (byte 11 block - 16 * bitOf 4 (byte 11 block)) 0xA0
 
 -- "in it bit 4 becomes bit 4 of byte 11 if action bit 5 is set, else" the LUN
-abbrev pub SelectBit : (Lun → Lists) → Type 0
+abbrev pub SelectBit : Lists → Type 0
 SelectBit ops =
     (lun : Lun) (block block' : List ℕ) (l : ℕ) (d : Direction) → Sets 5 block block'
     → Differ (ops lun block l d) (ops lun block' l d)
     (Select (device block + 16 * lunNumber lun) ∷ []) (Select (device block + 16 * bitOf 4 (byte 11 block)) ∷ [])
 
 -- What the LUN does: where action bit 5 is clear it is bit 4 of the select, and nothing else; where it is set, nothing at all.
-abbrev pub LunBit : (Lun → Lists) → Type 0
+abbrev pub LunBit : Lists → Type 0
 LunBit ops =
     (block : List ℕ) (l : ℕ) (d : Direction)
     → (bitOf 5 (action block) ≡ 1 → ops Lun0 block l d ≡ ops Lun1 block l d)
@@ -114,9 +115,9 @@ LunBit ops =
 -- "operand is .. plus 2, 4, 8, 16 for action bits 6, 4, 3, 7": bit k adds n to the operand and changes nothing else
 abbrev pub Weighs : Lists → ℕ → ℕ → Type 0
 Weighs ops k n =
-    (block block' : List ℕ) (l : ℕ) (d : Direction) → Sets k block block'
-    → (Reading block → ops block l d ≡ ops block' l d)
-    × (Writing block → (t : ℕ) × Differ (ops block l d) (ops block' l d) (only (ltb 0 l) (Transfer t)) (only (ltb 0 l) (Transfer (t + n))))
+    (lun : Lun) (block block' : List ℕ) (l : ℕ) (d : Direction) → Sets k block block'
+    → (Reading block → ops lun block l d ≡ ops lun block' l d)
+    × (Writing block → (t : ℕ) × Differ (ops lun block l d) (ops lun block' l d) (only (ltb 0 l) (Transfer t)) (only (ltb 0 l) (Transfer (t + n))))
 
 abbrev pub TransferBits : Lists → Type 0
 TransferBits ops = Weighs ops 6 2 × Weighs ops 4 4 × Weighs ops 3 8 × Weighs ops 7 16
@@ -124,15 +125,15 @@ TransferBits ops = Weighs ops 6 2 × Weighs ops 4 4 × Weighs ops 3 8 × Weighs 
 -- "operand is 1 if in": the operand of a block that sets none of the four bits
 abbrev pub TransferWay : Lists → Type 0
 TransferWay ops =
-    (block : List ℕ) (l : ℕ) → Writing block → 0 < l
+    (lun : Lun) (block : List ℕ) (l : ℕ) → Writing block → 0 < l
     → (t : ℕ) × (t ≡ 2 * bitOf 6 (action block) + 4 * bitOf 4 (action block) + 8 * bitOf 3 (action block) + 16 * bitOf 7 (action block))
-    × Differ (ops block l Out) (ops block l In) (Transfer t ∷ []) (Transfer (t + 1) ∷ [])
+    × Differ (ops lun block l Out) (ops lun block l In) (Transfer t ∷ []) (Transfer (t + 1) ∷ [])
 
 -- "transfer if L > 0"
 abbrev pub TransferNeedsLength : Lists → Type 0
 TransferNeedsLength ops =
-    (block : List ℕ) (l : ℕ) (d : Direction) → Writing block → 0 < l
-    → (t : ℕ) × Differ (ops block 0 d) (ops block l d) [] (Transfer t ∷ [])
+    (lun : Lun) (block : List ℕ) (l : ℕ) (d : Direction) → Writing block → 0 < l
+    → (t : ℕ) × Differ (ops lun block 0 d) (ops lun block l d) [] (Transfer t ∷ [])
 
 -- how many of the registers are selected
 abbrev pub tally : List ℕ → List ℕ → ℕ
@@ -142,10 +143,10 @@ tally block (r ∷ rs) = bitOf r (byte 3 block) + tally block rs
 -- "At most 11 operations", 10 for a read block; and the number of them: the poll, the select, a read 7 or none, each register, the transfer
 abbrev pub Counted : Lists → Type 0
 Counted ops =
-    (block : List ℕ) (l : ℕ) (d : Direction)
+    (lun : Lun) (block : List ℕ) (l : ℕ) (d : Direction)
     → (Reading block
-    → (length (ops block l d) ≡ one (not (bit 2 (action block))) + 1 + tally block (0 ∷ 1 ∷ 2 ∷ 3 ∷ 4 ∷ 5 ∷ 6 ∷ 7 ∷ []))
-    × (length (ops block l d) ≤ 10))
+    → (length (ops lun block l d) ≡ one (not (bit 2 (action block))) + 1 + tally block (0 ∷ 1 ∷ 2 ∷ 3 ∷ 4 ∷ 5 ∷ 6 ∷ 7 ∷ []))
+    × (length (ops lun block l d) ≤ 10))
     × (Writing block
-    → (length (ops block l d) ≡ one (not (bit 2 (action block))) + 2 + tally block (0 ∷ 1 ∷ 2 ∷ 3 ∷ 4 ∷ 5 ∷ 7 ∷ []) + one (ltb 0 l))
-    × (length (ops block l d) ≤ 11))
+    → (length (ops lun block l d) ≡ one (not (bit 2 (action block))) + 2 + tally block (0 ∷ 1 ∷ 2 ∷ 3 ∷ 4 ∷ 5 ∷ 7 ∷ []) + one (ltb 0 l))
+    × (length (ops lun block l d) ≤ 11))
