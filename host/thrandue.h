@@ -102,9 +102,9 @@ enum {
 
 /* The image becomes that of a bridge at power-on, whatever it held, in a dock that is bus powered
  * or not and whose memory part has pages of 32, 64, 128 or 256 bytes; another number is taken as
- * 32, the safe one. A memory write that crosses a page of that size is answered CROSSES_PAGE. It
- * holds two drives where `drives` is 2, and one where it is any other number: Get Max LUN replies 1
- * or 0, and a packet for a LUN above that is answered NOT_MEANINGFUL. Answers DONE. */
+ * 32, the safe one. A memory write that crosses a page of that size is answered CROSSES_PAGE. The
+ * dock holds two drives where `drives` is 2, and one where it is any other number: Get Max LUN
+ * replies 1 or 0, and a packet for a LUN above that is answered NOT_MEANINGFUL. Answers DONE. */
 uint32_t thrandue_power_on(thrandue_image *image, bool bus_powered, uint32_t page, uint32_t drives);
 
 /* As thrandue_power_on, with the settings of a store, and this is the only way by which settings

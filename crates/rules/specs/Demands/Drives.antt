@@ -38,7 +38,7 @@ abbrev pub Sensible : ℕ → ℕ → Type 0
 Sensible flags size = ((flags ≡ 0x00) ⊎ (flags ≡ 0x80)) × (1 ≤ size) × (size ≤ 16)
 
 -- Get Max LUN and packets agree: it replies a number, and a packet whose LUN byte is `lun`, otherwise meaningful, is damaged exactly when that is above it.
--- With one drive the number is 0, with two 1.
+-- With one drive the number is 0, with two 1: "a packet for LUN 1 on a one-drive dock is damaged, on a two-drive dock it isn't".
 abbrev pub LunsAgree : Machine → Type 0
 LunsAgree m =
     (s : m .State) (tag l flags lun size : ℕ) (field : List ℕ) (room : ℕ) → Ready (m .shows s) → Sensible flags size → length field ≡ 16
