@@ -1,4 +1,6 @@
 // The bench: records from standard input go through the bridge, and what it answers goes to standard output.
+#![tactic(auto)]
+
 ghost use Rattle.std.specs.Prelude.{◌+◌, ◌≤◌, length};
 ghost use Rattle.bench.specs.Streams.{Inside};
 
@@ -6,7 +8,7 @@ use libc::{STDIN_FILENO, STDOUT_FILENO};
 use rules::{Bridge, Dock, Drives, PageSize};
 
 // The bridge, and of the block that was read the part from `start` to `end` that is still to be taken. `last`: the input has ended.
-#[derive(Drop)]
+#[derive(Clone, Copy)]
 struct Stream {
     bridge: Bridge,
     start: usize,

@@ -1,4 +1,6 @@
 // Control requests: those that are granted are done, and descriptors are told from where they stand.
+#![tactic(auto)]
+
 ghost use Rattle.std.specs.Prelude.{◌≡◌, cond, [], ◌∷◌, ◌-◌, ◌≤◌, take, drop, replicate};
 ghost use Rattle.outcomes.specs.Outcomes.{outcome, left_by};
 ghost use Rattle.control.specs.Standing.{left_where};
@@ -18,7 +20,7 @@ use rules::fields::{BULK_OUT, FIRST_STRING, MEMORY};
 use rules::{Bridge, Change, Request, Seen, Setup, Stands};
 
 // The outcome of a control request, and where its reply stands.
-#[derive(Drop)]
+#[derive(Clone, Copy)]
 pub struct ControlOutcome {
     pub outcome: Outcome,
     pub stands: Stands,

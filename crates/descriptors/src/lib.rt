@@ -1,4 +1,6 @@
 // Descriptors from the memory part: whether one is there, where it stands, and the part of the memory that is told of it.
+#![tactic(auto)]
+
 ghost use Rattle.std.specs.Prelude.{◌≡◌, ◌+◌, ◌≤◌, length};
 ghost use Rattle.lent.specs.Parts.{PartOf};
 ghost use Rattle.rules.specs.Descriptors.{number_of, string_of, place_of, head_of, length_at, answered};
@@ -8,7 +10,7 @@ use rules::addresses::{Address, StringIndex};
 use rules::answers::{NO_DESCRIPTOR, PAST_MEMORY};
 
 // What a search comes to: the number of its refusal, or where the descriptor stands and how long it is.
-#[derive(Drop)]
+#[derive(Clone, Copy)]
 pub enum Found {
     No(u8),
     At(Address, u16),

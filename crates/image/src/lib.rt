@@ -1,4 +1,6 @@
 // The image of a bridge with its configuration bytes and what it holds of a packet in bursts: sixty-two bytes, read, and changed in place.
+#![tactic(auto)]
+
 ghost use Rattle.std.specs.Prelude.{◌≡◌, [], set, drop};
 ghost use Rattle.rules.specs.Words.{long, byte};
 ghost use Rattle.rules.specs.Held.{starting, by_default};
@@ -50,7 +52,7 @@ const STOPPED: u8 = 3;
 const TOO_LONG: u8 = 32;
 
 // What is held, with room for a byte more than a packet has, and how much of it counts.
-#[derive(Drop)]
+#[derive(Clone, Copy)]
 pub struct Fragments {
     pub bytes: [u8; 32],
     pub count: usize,

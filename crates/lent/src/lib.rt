@@ -1,4 +1,6 @@
 // What the crates above are written with: numbers from bytes, low byte first; a part of a lent slice; and copying into one as far as it goes.
+#![tactic(auto)]
+
 ghost use Rattle.std.specs.Prelude.{◌≡◌, ◌+◌, ◌*◌, ◌≤◌, min, length, replicate};
 ghost use Rattle.std.proofs.Math.Seq.{paste};
 ghost use Rattle.lent.specs.Parts.{PartOf};

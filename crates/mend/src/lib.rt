@@ -1,4 +1,6 @@
 // A spoiled image of a memory part is mended, and what is changed is listed.
+#![tactic(auto)]
+
 ghost use Rattle.std.specs.Prelude.{◌≡◌, ◌+◌, ◌*◌, ◌<◌, ◌≤◌, cond, length};
 ghost use Rattle.rules.specs.Words.{byte, laid};
 ghost use Rattle.mend.specs.Mend.{fixed_bytes, set_by, fixed as fixes, lost, mended, changed, changes, entry, entries, mending, left, mends};
@@ -7,7 +9,7 @@ use rules::addresses::StringIndex;
 use rules::answers;
 
 // What a mending comes to: its number, and how many changes are listed.
-#[derive(Drop)]
+#[derive(Clone, Copy)]
 pub struct Mending {
     pub answer: u8,
     pub changes: usize,

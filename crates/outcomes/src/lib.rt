@@ -1,5 +1,7 @@
 // What every event is written with: its outcome, a change of the bridge made by value, and whether a phase is a stop. The bus reset is told by its
 // outcome alone.
+#![tactic(auto)]
+
 ghost use Rattle.std.specs.Prelude.{◌≡◌, [], true, false};
 ghost use Rattle.outcomes.specs.Outcomes.{outcome, Answers};
 ghost use Rattle.rules.specs.Held.{configuring, in_phase, halted as marked, halting, clearing, is_stopped};
@@ -9,7 +11,7 @@ ghost use Rattle.rules.specs.Step.{BusReset};
 use rules::{Bridge, Change, Direction, Halts, Phase, answers};
 
 // The answer's number, how many bytes or operations were handed out, and what is changed of the bridge.
-#[derive(Drop)]
+#[derive(Clone, Copy)]
 pub struct Outcome {
     pub answer: u8,
     pub count: u16,

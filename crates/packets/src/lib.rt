@@ -1,4 +1,6 @@
 // Command packets: whether one is awaited, its validity, meaning and direction, and what it changes.
+#![tactic(auto)]
+
 ghost use Rattle.std.specs.Prelude.{◌≡◌, false, ltb, length};
 ghost use Rattle.packets.specs.Awaited.{Awaits, meaning_of, taken_as};
 ghost use Rattle.outcomes.specs.Outcomes.{outcome, AnswersOf};
@@ -13,7 +15,7 @@ use passthrough::Judgement;
 use rules::{Bridge, Change, CommandPacket, Direction, Drives, Lun, Phase, StatusPacket, answers};
 
 // What a packet means: nothing, or a command for a drive.
-#[derive(Drop)]
+#[derive(Clone, Copy)]
 enum Meaning {
     None,
     For(Lun),

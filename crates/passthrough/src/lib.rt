@@ -1,5 +1,7 @@
 // The pass-through block, judged: whether its sixteen bytes are recognised, how many register operations they make, and the operations.
 // `expected` is the packet's length L, `size` its block length; `lun` is the drive that it is for, and `select` the select's operand.
+#![tactic(auto)]
+
 ghost use Rattle.std.specs.Prelude.{◌≡◌, true, cond, not, [], ◌∷◌, ◌≤◌, ◌<◌, ltb, length};
 ghost use Rattle.passthrough.specs.Rows.{PutOperations, FitsOperations, rising, accesses};
 ghost use Rattle.passthrough.specs.Judgements.{judgement, judged};
@@ -10,7 +12,7 @@ ghost use Rattle.rules.specs.Operations.{Operation, Poll, Transfer, coded, code,
 use rules::{Direction, Lun};
 
 // How a block is judged: not recognised; recognised, with less room than its operations need; or made, and how many they are.
-#[derive(Drop)]
+#[derive(Clone, Copy)]
 pub enum Judgement {
     Unrecognised,
     NoRoom,

@@ -1,4 +1,6 @@
 // The bench's records and lines: whole records of a block go through the bridge, and what it answers is printed.
+#![tactic(auto)]
+
 ghost use Rattle.std.specs.Prelude.{◌≡◌, ◌≤◌, length};
 ghost use Rattle.rules.specs.Held.{world};
 ghost use Rattle.records.specs.Printed.{is_whole, is_torn};
@@ -10,7 +12,7 @@ mod lines;
 use rules::Bridge;
 
 // How a stream begins: with a whole record, a torn one, or a part of which more may come.
-#[derive(Drop)]
+#[derive(Clone, Copy)]
 pub(crate) enum Head {
     Whole,
     Torn,
@@ -18,14 +20,14 @@ pub(crate) enum Head {
 }
 
 // The bridge after an event, and the place behind its line.
-#[derive(Drop)]
+#[derive(Clone, Copy)]
 pub(crate) struct Printed {
     bridge: Bridge,
     next: usize,
 }
 
 // How a block begins, and after its first record, where that is whole: the bridge, the bytes used, and the place behind the line.
-#[derive(Drop)]
+#[derive(Clone, Copy)]
 pub(crate) struct Turned {
     head: Head,
     bridge: Bridge,
@@ -34,7 +36,7 @@ pub(crate) struct Turned {
 }
 
 // The bridge as the events leave it, the bytes used and written, and whether a torn record ended the stream.
-#[derive(Drop)]
+#[derive(Clone, Copy)]
 pub struct Ran {
     pub bridge: Bridge,
     pub used: usize,

@@ -1,4 +1,6 @@
 // Control requests, judged: the fields of a setup, the request that they make, and the answer that the checks give.
+#![tactic(auto)]
+
 ghost use Rattle.std.specs.Prelude.{◌≡◌, true, false, cond, not, ◌&&◌, ◌||◌, ◌∷◌, ◌++◌, ◌+◌, min, eqb, leb, ltb, length};
 ghost use Rattle.requests.specs.Judgements.{judged, judged_by, found_by, described_checks};
 ghost use Rattle.rules.specs.Words.{◌if◌, first};
@@ -16,7 +18,7 @@ use rules::fields::{BULK_IN, BULK_OUT, CONFIGURATION_BYTES, MEMORY};
 use rules::{PageSize, Request, Seen, Setup};
 
 // How a control request is judged: refused, granted, or a descriptor is found, where its reply stands in the memory and how long that is.
-#[derive(Drop)]
+#[derive(Clone, Copy)]
 pub enum Judgement {
     Refused(u8),
     Granted(Request, Setup),

@@ -20,4 +20,4 @@ OnePart {n} parameters result slice ensures =
     (κs : Lfts n) (arguments : Dens κs parameters) (r r' : (res_t result κs).Denot) (left left' : Lasts (ended_of n parameters result) κs arguments)
     → (let exit = at_exit (ended_of n parameters result) κs arguments in
     ensures κs arguments r (exit left) → ensures κs arguments r' (exit left')
-    → ((slice κs r).ref_ptr ≡ (slice κs r').ptr) × ((slice κs r).now ≡ (slice κs r').now) × (left ≡ left'))
+    → ((slice κs r).ref_ptr ≡ (slice κs r').ref_ptr) × ((slice κs r).now ≡ (slice κs r').now) × (left ≡ left'))

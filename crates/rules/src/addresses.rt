@@ -2,10 +2,10 @@
 ghost use Rattle.std.specs.Prelude.{◌≡◌};
 ghost use Rattle.rules.specs.Descriptors.{address_of, number_of};
 
-#[derive(Drop)]
+#[derive(Clone, Copy)]
 pub struct StringIndex(pub u8);
 
-#[derive(Drop)]
+#[derive(Clone, Copy)]
 pub struct Address(pub u16);
 
 impl StringIndex {

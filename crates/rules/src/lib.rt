@@ -1,5 +1,7 @@
 // The types of the paper: what the bridge holds, what an event changes of it, the requests of its table and what they are judged by, and the
 // two kinds of packet with their constants.
+#![tactic(auto)]
+
 ghost use Rattle.std.specs.Prelude.{◌≡◌};
 ghost use Rattle.rules.specs.Held.{drives_of, lun_number, max_lun, page_bytes, page_of, power_on, power_on_bytes};
 ghost use Rattle.rules.specs.Packets.{command_layout, inward, status_layout};
@@ -12,7 +14,7 @@ pub mod fields;
 use crate::addresses::{Address, StringIndex};
 
 // Where data goes, seen from the host. With L = 0 none goes, and Out stands for that.
-#[derive(Drop)]
+#[derive(Clone, Copy)]
 pub enum Direction {
     Out,
     In,
@@ -39,7 +41,7 @@ impl Direction {
 }
 
 // The drive that a command is for.
-#[derive(Drop)]
+#[derive(Clone, Copy)]
 pub enum Lun {
     Lun0,
     Lun1,
@@ -56,7 +58,7 @@ impl Lun {
     }
 }
 
-#[derive(Drop)]
+#[derive(Clone, Copy)]
 pub enum Phase {
     Awaiting,
     Busy {
@@ -77,14 +79,14 @@ pub enum Phase {
 }
 
 // A halt mark for bulk out and one for bulk in.
-#[derive(Drop)]
+#[derive(Clone, Copy)]
 pub struct Halts {
     pub outward: bool,
     pub inward: bool,
 }
 
 // Pages of the memory part, of 32, 64, 128 or 256 bytes.
-#[derive(Drop)]
+#[derive(Clone, Copy)]
 pub enum PageSize {
     Of32,
     Of64,
@@ -94,6 +96,7 @@ pub enum PageSize {
 
 impl PageSize {
     // Another number is taken as 32, the safe one.
+    #[tactic(auto, unfolding(crate::specs::Held::page_of))]
     pub fn of(number: u32) -> Self
         ensures { result ≡ page_of number }
     {
@@ -118,7 +121,7 @@ impl PageSize {
 }
 
 // How many drives the dock holds.
-#[derive(Drop)]
+#[derive(Clone, Copy)]
 pub enum Drives {
     One,
     Two,
@@ -126,6 +129,7 @@ pub enum Drives {
 
 impl Drives {
     // The number 2 says two, every other number says one.
+    #[tactic(auto, unfolding(crate::specs::Held::drives_of))]
     pub fn of(number: u32) -> Self
         ensures { result ≡ drives_of number }
     {
@@ -146,14 +150,14 @@ impl Drives {
 }
 
 // What is fixed at power-on.
-#[derive(Drop)]
+#[derive(Clone, Copy)]
 pub struct Dock {
     pub bus_powered: bool,
     pub page: PageSize,
     pub drives: Drives,
 }
 
-#[derive(Drop)]
+#[derive(Clone, Copy)]
 pub struct Bridge {
     pub dock: Dock,
     // The USB configuration: 2 where it is true, else 0.
@@ -188,7 +192,7 @@ pub fn power_on_bytes() -> [u8; 16]
 // What an event changes of the bridge: nothing; the configuration is set, awaiting, no halts; a command is awaited; a reset has one awaited; what is
 // held is dropped, and no more; a command begins; it finishes, and its direction's pipe is halted or not; the bridge stops; a stop notes a Mass Storage
 // Reset; a pipe's halt is cleared; a stop ends.
-#[derive(Drop)]
+#[derive(Clone, Copy)]
 pub enum Change {
     Nothing,
     Sets(bool),
@@ -215,7 +219,7 @@ pub enum Change {
 }
 
 // The fields of a setup: bmRequestType, bRequest, wValue, wIndex, wLength.
-#[derive(Drop)]
+#[derive(Clone, Copy)]
 pub struct Setup {
     pub kind: u8,
     pub code: u8,
@@ -225,7 +229,7 @@ pub struct Setup {
 }
 
 // What a control request is judged by, of all that the bridge holds beside the memory.
-#[derive(Drop)]
+#[derive(Clone, Copy)]
 pub struct Seen {
     pub configured: bool,
     pub bus_powered: bool,
@@ -235,14 +239,14 @@ pub struct Seen {
 }
 
 // Where what is handed out stands: at the front of the lent room, or, a part of the lent memory itself, from an address on.
-#[derive(Drop)]
+#[derive(Clone, Copy)]
 pub enum Stands {
     InRoom,
     InMemory(Address),
 }
 
 // The rows of the request table, but for Get Descriptor, which is not done but found.
-#[derive(Drop)]
+#[derive(Clone, Copy)]
 pub enum Request {
     SetConfiguration,
     GetConfiguration,
@@ -257,13 +261,13 @@ pub enum Request {
 }
 
 // What marks a kind of packet: its length, and its first four bytes as a number.
-#[derive(Drop)]
+#[derive(Clone, Copy)]
 pub struct Layout {
     pub length: usize,
     pub signature: u32,
 }
 
-#[derive(Drop)]
+#[derive(Clone, Copy)]
 pub struct CommandPacket {
     pub tag: u32,
     pub length: u32,
@@ -287,7 +291,7 @@ impl CommandPacket {
     }
 }
 
-#[derive(Drop)]
+#[derive(Clone, Copy)]
 pub struct StatusPacket {
     pub tag: u32,
     pub residue: u32,

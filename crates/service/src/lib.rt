@@ -1,4 +1,6 @@
 // The tools for field service, for C on the service laptop: thin exported calls on lent bytes. host/service.h is what a caller reads.
+#![tactic(auto)]
+
 ghost use Rattle.std.specs.Prelude.{◌≡◌};
 ghost use Rattle.rules.specs.Held.{page_of};
 ghost use Rattle.settings.specs.Store.{settings_from, read_by, newest};

@@ -1,4 +1,6 @@
 // Settings that field service keeps: a store of them is read, and a record of them is written.
+#![tactic(auto)]
+
 ghost use Rattle.std.specs.Prelude.{◌≡◌, ◌*◌, ◌/◌, length};
 ghost use Rattle.rules.specs.Held.{page_bytes, page_of};
 ghost use Rattle.rules.specs.Words.{first};
@@ -8,14 +10,14 @@ use rules::fields::FIRST_SETTING;
 use rules::{PageSize, answers};
 
 // The bytes for configuration addresses 2 to F, and the page size.
-#[derive(Drop)]
+#[derive(Clone, Copy)]
 pub struct Settings {
     pub bytes: [u8; 14],
     pub page: PageSize,
 }
 
 // What a store says: its number, and where that is 0 the settings, else the defaults.
-#[derive(Drop)]
+#[derive(Clone, Copy)]
 pub struct Reading {
     pub answer: u8,
     pub settings: Settings,

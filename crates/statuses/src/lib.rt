@@ -1,4 +1,6 @@
 // The status request: the packet that waits, written into the lent room.
+#![tactic(auto)]
+
 ghost use Rattle.std.specs.Prelude.{◌≡◌, ◌+◌, ◌≤◌, length};
 ghost use Rattle.std.proofs.lemmas.List.Edits.{sets};
 ghost use Rattle.statuses.specs.Waiting.{Waits};

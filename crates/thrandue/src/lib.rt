@@ -1,4 +1,6 @@
 // The bridge for C: thin exported calls on numbers and lent bytes. host/thrandue.h is what a caller reads.
+#![tactic(auto)]
+
 ghost use Rattle.std.specs.Prelude.{◌≡◌, [], ◌++◌, ◌≤◌, length, drop};
 ghost use Rattle.outcomes.specs.Outcomes.{left_by};
 ghost use Rattle.rules.specs.Held.{world, page_of, drives_of, docked, by_default, configuration};

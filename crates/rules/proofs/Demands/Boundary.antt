@@ -164,7 +164,7 @@ until h [] u = record { silent = tt; lasts = h; calm = refl }
 until {r} {w} h (e ∷ es) u =
     let n = (and-eq-true_iff (not (boundary rules w e)) (unbroken rules (step w e).next es)).0 u in
     let k = lasting (course h e) (not-true _ n.0) in
-    let rest = until k.0 es n.1 in
+    let rest = until {r = accepts rules MassStorageReset w e || r} {w = (step w e).next} k.0 es n.1 in
     record {
       silent = ((quiet h e).0, (quiet h e).1, rest.silent);
       lasts = rw (or_comm (accepts rules MassStorageReset w e) (reset_among rules (step w e).next es), or_assoc) rest.lasts;
