@@ -9,9 +9,9 @@ use borrow.Author.Tests.{ltb-true}
 use Rattle.rules.specs.Words.{one}
 
 -- what `as u8` makes of a bool
-pub bool_byte : (b : Bool) → bool_byte b ≡ one b
-bool_byte true = refl
-bool_byte false = refl
+pub bool_byte_lem : (b : Bool) → bool_byte b ≡ one b
+bool_byte_lem true = refl
+bool_byte_lem false = refl
 
 pub bool_most : (b : Bool) → bool_byte b ≤ 1
 bool_most true = omega arith
