@@ -10,7 +10,7 @@ use lib.Dec.{eqb, ltb}
 use lib.ListN.{length}
 use mir.Val.{bool_byte}
 use borrow.Author.Tests.{eqb-true, eqb-false}
-use Rattle.lent.proofs.Laws.{bool_byte}
+use Rattle.lent.proofs.Laws.{bool_byte_lem}
 use Rattle.rules.proofs.Demands.Operations.{counted}
 use Rattle.rules.specs.declared.Direction.{Direction}
 use Rattle.rules.specs.declared.Lun.{Lun}
@@ -60,7 +60,7 @@ module _ (lun : Lun) (block : List ℕ) (l : ℕ) (d : Direction) (h : byte 3 bl
   count-write e =
       let other : bit_of 0 (action block) ≡ 1 → ⊥ = eqb-false _ 1 e in
       let registers = seven-eight _ _ _ _ _ _ _ _ ∙ sym (ones-tally block h) in
-      rw (bool_byte (ltb 0 l))
+      rw (bool_byte_lem (ltb 0 l))
       (((counted lun block l d).1 (omega arith)).0 ∙ written _ _ _ _ _ _ (one-not (bit_of 2 (action block)) (omega arith)) (omega arith) registers)
 
 -- "At most 11 operations"
