@@ -1,7 +1,7 @@
 -- Laws of a mended image, byte by byte: what stands at an address, and that an image which is mended in part is mended to the same.
 use Prim.Native.Nat.{ℕ, zero, suc, ◌+◌, ◌-◌, ◌<◌, ◌≤◌}
 use mathlib.Core.Path.{◌≡◌, refl, sym, ap, subst, ◌∙◌}
-use mathlib.Core.Logic.{◌⊎◌, inl, inr, ⊎_elim}
+use mathlib.Core.Logic.{◌⊎◌, inl, inr}
 use mathlib.Core.Bool.{Bool, true, false, cond, not, ◌&&◌, ◌||◌, false≢true, and-eq-true_iff, or-true}
 use mathlib.Core.List.{List, [], ◌∷◌, ◌++◌}
 use native.Mathlib.Nat.{add-zero, zero-add, suc-add, add-suc}
@@ -180,6 +180,7 @@ is_among_lem k (x ∷ xs) h = go (eqb k x) refl h (is_among_lem k xs)
     go false e h ih = inr (ih h)
 
 pub among-is : (k : ℕ) (xs : List ℕ) → Among k xs → is_among k xs ≡ true
+among-is k [] m = elim m [ ]
 among-is k (y ∷ ys) (inl e) = rw (eq-eqb k y e) refl
 among-is k (y ∷ ys) (inr m) = rw (among-is k ys m) (or-true (eqb k y))
 
@@ -214,6 +215,7 @@ all_below n [] = true
 all_below n (x ∷ xs) = ltb x n && all_below n xs
 
 below : (k : ℕ) (xs : List ℕ) (n : ℕ) → Among k xs → all_below n xs ≡ true → k < n
+below k [] n m t = elim m [ ]
 below k (y ∷ ys) n (inl e) t = rw e (ltb-true y n ((and-eq-true_iff (ltb y n) (all_below n ys)).0 t).0)
 below k (y ∷ ys) n (inr m) t = below k ys n m ((and-eq-true_iff (ltb y n) (all_below n ys)).0 t).1
 

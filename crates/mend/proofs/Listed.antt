@@ -1,16 +1,16 @@
 -- The list of changes is what Mended says of it.
 use Prim.Native.Nat.{ℕ, zero, suc, ◌+◌, ◌<◌, ◌≤◌}
 use mathlib.Core.Path.{◌≡◌, refl, sym, ap, subst, ◌∙◌}
-use mathlib.Core.Logic.{◌⊎◌, inl, inr}
+use mathlib.Core.Logic.{inl, inr}
 use mathlib.Core.Bool.{Bool, true, false, cond, false≢true}
 use mathlib.Core.List.{List, [], ◌∷◌, ◌++◌}
 use native.Mathlib.Nat.{add-zero, zero-add, suc-add, add-suc}
 use native.Mathlib.Omega.{arith}
 use native.Mathlib.Numerals.{add-one}
-use lib.ListN.{length, set, take, length-append, get_or-eq_default}
+use lib.ListN.{length, take, length-append, get_or-eq_default}
 use lib.Seq.{length-take-le, get_or-take, append_snoc, set-append_seam}
 use lib.Dec.{eqb, ltb}
-use borrow.Author.Tests.{eqb-true, eqb-false, eq-eqb, ne_eqb, ltb-true, ltb-false}
+use borrow.Author.Tests.{eqb-true, eqb-false, ne_eqb, ltb-true, ltb-false}
 use Rattle.rules.specs.Words.{byte, one}
 use Rattle.mend.specs.Mend.{mended, Changed, changed, changes_from, changes}
 use Rattle.mend.specs.Mended.{Among, ChangesAreListed, ListedIsChanged, Rising, none, next, ListRises, put_back, OldBytesGiveTheImage, ThirteenAtMost}
@@ -51,6 +51,8 @@ abbrev IsChange : ℕ → List ℕ → List ℕ → Changed → Type 0
 IsChange a old new c = (k : ℕ) × (k < length old) × (c ≡ changed (a + k) (byte k old) (byte k new)) × (byte k old ≡ byte k new → ⊥)
 
 is-change : (a : ℕ) (old new : List ℕ) (c : Changed) → Among c (changes_from a old new) → IsChange a old new c
+is-change a [] new c m = elim m [ ]
+is-change a (o ∷ old) [] c m = elim m [ ]
 is-change a (o ∷ old) (n ∷ new) c m = go (eqb o n) refl m (is-change (suc a) old new c)
   where
     later : IsChange (suc a) old new c → IsChange a (o ∷ old) (n ∷ new) c

@@ -1,5 +1,5 @@
 -- What holds of a mended image and of the list of its changes: proved in proofs/Mended.
-use Rattle.std.specs.Prelude.{ℕ, ◌+◌, ◌<◌, ◌≤◌, ◌≡◌, ◌⊎◌, Bool, cond, List, [], ◌∷◌, length, set, drop, ltb}
+use Rattle.std.specs.Prelude.{ℕ, ◌+◌, ◌<◌, ◌≤◌, ◌≡◌, ◌⊎◌, cond, List, [], ◌∷◌, length, set, ltb}
 use Rattle.rules.specs.Words.{byte, word, laid}
 use Rattle.rules.specs.Step.{Machine}
 use Rattle.rules.specs.Demands.Descriptors.{wanting}
