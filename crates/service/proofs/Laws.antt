@@ -1,15 +1,22 @@
 -- Laws of what the calls for field service leave.
-use Prim.Native.Nat.{ℕ, ◌+◌, ◌*◌}
+use Prim.Native.Nat.{ℕ, ◌+◌, ◌*◌, ◌≤◌}
 use mathlib.Core.Path.{◌≡◌, refl, sym, ap, ◌∙◌}
-use mathlib.Core.Bool.{cond}
+use mathlib.Core.Bool.{Bool, true, false, cond}
 use mathlib.Core.List.{List}
 use native.Mathlib.Nat.{add-zero}
-use borrow.Author.Tests.{ne_eqb}
+use native.Mathlib.Omega.{arith}
+use lib.ListN.{length}
+use lib.Dec.{ltb}
+use borrow.Author.Tests.{ne_eqb, ltb-true, ltb-false}
 use Rattle.rules.specs.Held.{page_bytes}
 use Rattle.rules.specs.Step.{done}
 use Rattle.settings.specs.declared.Settings.{Settings}
 use Rattle.settings.specs.declared.Reading.{Reading}
 use Rattle.settings.specs.Store.{record_length, wrote, written_in}
+use Rattle.mend.specs.declared.Mending.{Mending}
+use Rattle.mend.specs.Mend.{changes, Left, left, mends}
+use Rattle.mend.proofs.Answers.{too_short, no_room, is-done}
+use Rattle.mend.proofs.Listed.{thirteen-at-most}
 use Rattle.service.specs.Calls.{readout, showing, result, lays}
 
 -- what is read, shown or not
@@ -34,3 +41,19 @@ module _ (s : Settings) (room : List ℕ) {answer : ℕ} {after : List ℕ} (say
   is-written z =
       let same : 256 * 19 ≡ answer + 256 * cond (done answer) record_length 0 = rw z refl in
       ap (λ (n : ℕ). result n after) same ∙ told
+
+-- of a mending thirteen changes are listed at most
+pub few_listed : (image list : List ℕ) {m : Mending} {after now : List ℕ} → left m after now ≡ mends image list → m.changes ≤ 13
+few_listed image list {m} says = go (ltb (length image) 0x89) refl (ltb (length list) (length (changes image))) refl
+  where
+    listed : {l : Left} → mends image list ≡ l → m.changes ≡ l.comes_to.changes
+    listed e = ap (λ (l : Left). l.comes_to.changes) (says ∙ e)
+
+    go : (t : Bool) → ltb (length image) 0x89 ≡ t → (u : Bool) → ltb (length list) (length (changes image)) ≡ u → m.changes ≤ 13
+    go true e u f = omega (arith, listed (too_short image list (ltb-true (length image) 0x89 e)))
+    go false e true f =
+        let long = ltb-false (length image) 0x89 e in
+        omega (arith, listed (no_room image list long (ltb-true (length list) (length (changes image)) f)))
+    go false e false f =
+        let long = ltb-false (length image) 0x89 e in
+        omega (arith, listed (is-done image list long (ltb-false (length list) (length (changes image)) f)), thirteen-at-most image long)

@@ -5,6 +5,7 @@ use Rattle.rules.specs.Step.{done}
 use Rattle.settings.specs.declared.Settings.{Settings}
 use Rattle.settings.specs.declared.Reading.{Reading}
 use Rattle.settings.specs.Store.{record_length, Written, written_in}
+use Rattle.mend.specs.Mend.{Left, mends}
 
 -- of a read: the number that it returns, and settings for C, the fourteen bytes and the page size as a number
 pub record Readout : Type 0 where
@@ -33,3 +34,18 @@ abbrev pub lays : Settings → List ℕ → Result
 lays s room =
     let w : Written = written_in s room in
     result (w.answer + 256 * cond (done w.answer) record_length 0) w.room
+
+-- of a mending: the number that it returns, and the lent image and list
+pub record Repair : Type 0 where
+  pub returned : ℕ
+  pub image : List ℕ
+  pub list : List ℕ
+
+abbrev pub mending : ℕ → List ℕ → List ℕ → Repair
+mending returned image list = record { returned = returned; image = image; list = list }
+
+-- the answer, and above it how many changes are listed
+abbrev pub mends_for : List ℕ → List ℕ → Repair
+mends_for image list =
+    let l : Left = mends image list in
+    mending (l.comes_to.answer + 256 * l.comes_to.changes) l.image l.list

@@ -4,13 +4,13 @@
 ghost use Rattle.std.specs.Prelude.{◌≡◌};
 ghost use Rattle.rules.specs.Held.{page_of};
 ghost use Rattle.settings.specs.Store.{settings_from, read_by, newest};
-ghost use Rattle.service.specs.Calls.{readout, showing, result, lays, mending, mendsFor};
+ghost use Rattle.service.specs.Calls.{readout, showing, result as laying, lays, mending, mends_for};
 
 use rules::{PageSize, answers};
 use settings::{RECORD, Settings};
 
 fn settings_of(bytes: &[u8; 14], page: u32) -> Settings
-    ensures* { λ r. ⌜ r ≡ settings_from bytes.now (page_of page) ⌝ }
+    ensures { result ≡ settings_from bytes.now (page_of page) }
 {
     Settings {
         bytes: *bytes,
@@ -20,7 +20,7 @@ fn settings_of(bytes: &[u8; 14], page: u32) -> Settings
 
 #[unsafe(no_mangle)]
 pub extern "C" fn service_read(store: &[u8], bytes: &mut [u8; 14], page: &mut u32) -> u8
-    ensures* { λ r. ⌜ readout r bytes.new page.new ≡ showing (read_by newest store.now) bytes.old page.old ⌝ }
+    ensures { readout result bytes.new page.new ≡ showing (read_by newest store.now) bytes.old page.old }
 {
     let reading = settings::read(store);
     if reading.answer == answers::DONE {
@@ -35,7 +35,7 @@ pub extern "C" fn service_read(store: &[u8], bytes: &mut [u8; 14], page: &mut u3
 
 #[unsafe(no_mangle)]
 pub extern "C" fn service_write(bytes: &[u8; 14], page: u32, room: &mut [u8]) -> u32
-    ensures* { λ r. ⌜ result r room.new ≡ lays (settings_from bytes.now (page_of page)) room.old ⌝ }
+    ensures { laying result room.new ≡ lays (settings_from bytes.now (page_of page)) room.old }
 {
     let answer = settings::write(settings_of(bytes, page), room);
     if answer != answers::DONE {
@@ -46,7 +46,7 @@ pub extern "C" fn service_write(bytes: &[u8; 14], page: u32, room: &mut [u8]) ->
 
 #[unsafe(no_mangle)]
 pub extern "C" fn service_mend(image: &mut [u8], list: &mut [u32]) -> u32
-    ensures* { λ r. ⌜ mending r image.new list.new ≡ mendsFor image.old list.old ⌝ }
+    ensures { mending result image.new list.new ≡ mends_for image.old list.old }
 {
     let mended = mend::mend(image, list);
     mended.answer as u32 + 256 * mended.changes as u32
