@@ -26,6 +26,7 @@ const STRING: u8 = 3;
 const QUALIFIER: u8 = 6;
 
 // Of strings any index is answered, of the other types 0 alone.
+#[tactic(auto, unfolding(rules::specs::Descriptors::answered))]
 fn is_answered(kind: u8, index: u8) -> bool
     ensures { result ≡ answered kind index }
 {
@@ -47,6 +48,7 @@ fn string_of(first: StringIndex, index: u8) -> StringIndex
     StringIndex(index)
 }
 
+#[tactic(auto, unfolding(rules::specs::Descriptors::place_of))]
 fn place(bus_powered: bool, first: StringIndex, kind: u8, index: u8) -> Address
     ensures { result ≡ place_of bus_powered first kind index }
 {
@@ -69,6 +71,7 @@ fn head_of(kind: u8) -> usize
 }
 
 // Of a configuration the total length.
+#[tactic(auto, unfolding(rules::specs::Descriptors::length_at))]
 fn length_at(kind: u8, memory: &[u8], at: usize) -> u16
     requires { at + head_of kind ≤ length memory.now }
     ensures { result ≡ length_at kind memory.now at }
