@@ -93,6 +93,7 @@ fn number(low: u8, n: u16, reply: &mut [u8]) -> Outcome
 }
 
 // A request that is to be done and that no check refuses. As far as the rooms go: of one that is granted they hold it all.
+#[tactic(auto, unfolding(rules::specs::Words::over))]
 pub fn serve(
     r: Request,
     s: Setup,
