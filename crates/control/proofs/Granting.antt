@@ -14,7 +14,7 @@ use Rattle.rules.specs.Answers.{seen_of}
 use Rattle.rules.specs.Step.{Control, done}
 use Rattle.rules.specs.Promise.{left_at, left, leaves, served}
 use Rattle.rules.proofs.Checks.{request_undamaged, request-passed}
-use Rattle.rules.proofs.Promises.{controlAnswer, control-refused, control-done, control-found}
+use Rattle.rules.proofs.Promises.{control_answer, control-refused, control-done, control-found}
 use Rattle.requests.specs.declared.Judgement.{Judgement}
 use Rattle.requests.specs.declared.Judgement.TheVariants.{Refused, Granted, Found}
 use Rattle.requests.specs.Judgements.{judged, judged_as}
@@ -26,14 +26,14 @@ module _ (w : World) (setup host room : List ℕ) where
   By (Granted r s) = length w.bytes ≡ 16 → served r s host w room ≡ leaves w (Control setup host) room
   By (Found at n) = left_at (InMemory at) 0 n Nothing w.bytes w.memory room ≡ leaves w (Control setup host) room
 
-  right : By (judged (seen_of w) w.memory (controlAnswer w setup host room) (setup_of setup))
+  right : By (judged (seen_of w) w.memory (control_answer w setup host room) (setup_of setup))
   right = go (request_of s) refl (done answer) refl
     where
       s : Setup
       s = setup_of setup
 
       answer : ℕ
-      answer = controlAnswer w setup host room
+      answer = control_answer w setup host room
 
       refuses : done answer ≡ false → By (Refused answer)
       refuses d =
@@ -51,5 +51,5 @@ module _ (w : World) (setup host room : List ℕ) where
       go Describes e true d = rw d (control-found w setup host room e (eqb-true answer 0 d))
       go Describes e false d = rw d (refuses d)
 
-  pub by-judgement : {j i : Judgement} → j ≡ judged (seen_of w) w.memory (controlAnswer w setup host room) (setup_of setup) → j ≡ i → By i
+  pub by-judgement : {j i : Judgement} → j ≡ judged (seen_of w) w.memory (control_answer w setup host room) (setup_of setup) → j ≡ i → By i
   by-judgement e k = subst By (sym e ∙ k) right

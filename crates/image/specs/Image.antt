@@ -16,7 +16,7 @@ use Rattle.rules.specs.declared.Phase.{Phase}
 use Rattle.rules.specs.declared.Phase.TheVariants.{Awaiting, Busy, StatusWaiting, Stopped}
 use Rattle.rules.specs.Words.{byte, long, bytes4, one, over}
 use Rattle.rules.specs.Held.{World, Start, max_lun, lun_number, world, holding, docked, start_bytes, marks}
-use Rattle.rules.specs.Held.{powered as atPowerOn}
+use Rattle.rules.specs.Held.{powered as at_power_on}
 use Rattle.rules.specs.Changes.{made, drops}
 use Rattle.rules.specs.Packets.{inward}
 use Rattle.rules.specs.Bursts.{kept}
@@ -134,7 +134,7 @@ added burst image =
 
 -- the image at power-on stands for the world at power-on
 abbrev pub PowersOn : Type 0
-PowersOn = (start : Start) (memory : List ℕ) → world_of (powered start) memory ≡ atPowerOn start memory
+PowersOn = (start : Start) (memory : List ℕ) → world_of (powered start) memory ≡ at_power_on start memory
 
 -- an image whose configuration bytes were written and where a change with numbers of 32 bits was put stands for those bytes and the bridge with the change
 -- made, holding what it held or nothing

@@ -55,14 +55,14 @@ unfolding step change
 reset-done b bytes memory = refl
 
 module _ (w : World) (setup host room : List ℕ) where
-  abbrev pub controlAnswer : ℕ
-  controlAnswer = request_answer (seen_of w) w.memory setup (length host) (length room)
+  abbrev pub control_answer : ℕ
+  control_answer = request_answer (seen_of w) w.memory setup (length host) (length room)
 
-  pub control-refused : (n : ℕ) → controlAnswer ≡ n → done n ≡ false
+  pub control-refused : (n : ℕ) → control_answer ≡ n → done n ≡ false
       → left n 0 (refused n) w.bytes w.memory room ≡ leaves w (Control setup host) room
   control-refused n a d = refusal w (Control setup host) room n a d
 
-  pub control-done : (r : Request) → request_of (setup_of setup) ≡ Known r → length w.bytes ≡ 16 → controlAnswer ≡ 0
+  pub control-done : (r : Request) → request_of (setup_of setup) ≡ Known r → length w.bytes ≡ 16 → control_answer ≡ 0
       → served r (setup_of setup) host w room ≡ leaves w (Control setup host) room
   unfolding step change
   control-done r e sixteen a =
@@ -75,7 +75,7 @@ module _ (w : World) (setup host room : List ℕ) where
       )
 
   -- "The reply is a part of the lent memory itself, not a copy."
-  pub control-found : request_of (setup_of setup) ≡ Describes → controlAnswer ≡ 0
+  pub control-found : request_of (setup_of setup) ≡ Describes → control_answer ≡ 0
       → (let s : Setup = setup_of setup in
       left_at (InMemory (place_in w.bridge.dock.bus_powered (first_string w.bytes) s.value)) 0 (length (reply_to Describes s w)) Nothing w.bytes w.memory room
       ≡ leaves w (Control setup host) room)

@@ -9,7 +9,7 @@ use borrow.Author.Tests.{ne_eqb}
 use Rattle.rules.specs.declared.Dock.{Dock}
 use Rattle.rules.specs.Words.{over}
 use Rattle.rules.specs.Held.{World, Start, holding, docked, power_on_bytes, starting}
-use Rattle.rules.specs.Held.{powered as atPowerOn}
+use Rattle.rules.specs.Held.{powered as at_power_on}
 use Rattle.rules.specs.Step.{Event, BusReset, Control, Packet, Report, StatusRequest, Burst, EndMark, Outcome, change, held_after, step, rules, after, reached}
 use Rattle.rules.specs.Promise.{handed_out, room_with}
 use Rattle.rules.specs.Demands.Boundary.{status_in, Silent}
@@ -120,7 +120,7 @@ runs s (c ∷ cs) h n b =
       stands_so = rest.stands_so ∙ ap (λ (v : World). after rules v (events_of cs)) now;
     }
 
-since-on : (start : Start) (memory : List ℕ) (cs : List Call) → AllOfBytes (events_of cs) → Runs (powered start, memory) (atPowerOn start memory) cs
+since-on : (start : Start) (memory : List ℕ) (cs : List Call) → AllOfBytes (events_of cs) → Runs (powered start, memory) (at_power_on start memory) cs
 since-on start memory cs b =
     subst (λ (w : World). Runs (powered start, memory) w cs) (powers_on start memory)
     (runs (powered start, memory) cs (powered-length start) (subst Measured (sym (powers_on start memory)) (measured-on start memory)) b)
@@ -167,7 +167,7 @@ pub calls_are_silent : CallsAreSilent
 calls_are_silent start memory history d since b stop =
     let parts = bytes_split history (d ∷ since) b in
     let before = since-on start memory history parts.0 in
-    let numbers = subst Measured (sym before.stands_so) (measured (atPowerOn start memory) (events_of history) (measured-on start memory) parts.0) in
+    let numbers = subst Measured (sym before.stands_so) (measured (at_power_on start memory) (events_of history) (measured-on start memory) parts.0) in
     let here = runs (parts_since start memory history) (d ∷ since) before.image numbers parts.1 in
     let same = here.learnt_so ∙ ap (λ (w : World). ruled w (d ∷ since)) before.stands_so in
     subst (AllHushed (d ∷ since)) (sym same)

@@ -4,7 +4,7 @@ use Rattle.rules.specs.declared.Dock.{Dock}
 use Rattle.rules.specs.declared.PageSize.{PageSize}
 use Rattle.rules.specs.declared.Stands.TheVariants.{InRoom}
 use Rattle.rules.specs.Held.{World, Start, holding, docked, by_default}
-use Rattle.rules.specs.Held.{powered as atPowerOn}
+use Rattle.rules.specs.Held.{powered as at_power_on}
 use Rattle.rules.specs.Step.{Event, BusReset, Control, Packet, Report, StatusRequest, Burst, EndMark, change, step, rules, after, reached}
 use Rattle.rules.specs.Promise.{Left, leaves}
 use Rattle.rules.specs.Demands.Boundary.{Stop, boundary, kept_writes, kept_boundary}
@@ -81,7 +81,7 @@ ruled w (c ∷ cs) =
 abbrev pub FromPowerOn : Type 0
 FromPowerOn =
     (start : Start) (memory : List ℕ) (cs : List Call) → AllOfBytes (events_of cs)
-    → (learns (powered start, memory) cs ≡ ruled (atPowerOn start memory) cs)
+    → (learns (powered start, memory) cs ≡ ruled (at_power_on start memory) cs)
     × (stands_for (parts_since start memory cs) ≡ reached rules start memory (events_of cs))
 
 -- ---- demand 3, of calls

@@ -106,8 +106,8 @@ module _ (w : World) (p : List ℕ) (room : ℕ) (single : w.bridge.dock.drives 
   abbrev made0 : List ℕ
   made0 = codes (operations_of Lun0 (block_of p) c.length (direction_of c))
 
-  abbrev packetOutcome : Outcome World
-  packetOutcome =
+  abbrev packet_outcome : Outcome World
+  packet_outcome =
       let n : ℕ = packet_answers w p room in
       record {
         answer = n;
@@ -147,7 +147,7 @@ module _ (w : World) (p : List ℕ) (room : ℕ) (single : w.bridge.dock.drives 
       go false e = refl
 
   -- all that a packet leaves, whole or at an end mark
-  outcome-before : (o : Outcome World) → o ≡ packetOutcome → o ≡ packet_before w p room
+  outcome-before : (o : Outcome World) → o ≡ packet_outcome → o ≡ packet_before w p room
   outcome-before o e = e ∙ λ i.
       record {
         answer = answer-before i;

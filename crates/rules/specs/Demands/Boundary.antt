@@ -6,7 +6,7 @@ use Rattle.rules.specs.declared.Phase.TheVariants.{Awaiting, Stopped}
 use Rattle.rules.specs.Words.{byte}
 use Rattle.rules.specs.Held.{World, Start, world, holding, bulk_out, bulk_in, in_phase, halted}
 use Rattle.rules.specs.Requests.{Named, Unknown, setup_of, request_of, is_a}
-use Rattle.rules.specs.Demands.Refusals.{damages as isDamage}
+use Rattle.rules.specs.Demands.Refusals.{damages as is_damage}
 use Rattle.rules.specs.Demands.Requests.{ordering}
 use Rattle.rules.specs.Step.{Event, BusReset, Control, Packet, Report, StatusRequest, Burst, EndMark, Outcome, Machine, after, reached, done}
 
@@ -85,7 +85,7 @@ Silent m s (e ∷ es) = ((m.takes s e).operations ≡ []) × (status_in e (m.tak
 -- a stop, after any history from power-on: the damaged packet d, and the events since, none of them the boundary
 pub record Stop (m : Machine) (start : Start) (memory : List ℕ) (history : List Event) (d : Event) (since : List Event) : Type 0 where
   pub ready : Ready (m.shows (reached m start memory history))
-  pub damages : isDamage (m.takes (reached m start memory history) d).answer ≡ true
+  pub damages : is_damage (m.takes (reached m start memory history) d).answer ≡ true
   pub lasts : unbroken m (m.takes (reached m start memory history) d).next since ≡ true
 
 -- "Until the boundary named in document 01, no register operation and no status packet is handed out."
@@ -138,8 +138,8 @@ VendorInStop m =
     → (let stop = in_phase (Stopped reset) (halted out back (m.shows s).bridge) in
     let running = m.takes s (Control setup host room) in
     let stopped = m.takes t (Control setup host room) in
-    let stoppedAs : World → World = λ w. holding w.held (world stop w.bytes w.memory) in
-    m.shows t ≡ stoppedAs (m.shows s) → byte 0 setup / 32 % 4 ≡ 2
+    let stopped_as : World → World = λ w. holding w.held (world stop w.bytes w.memory) in
+    m.shows t ≡ stopped_as (m.shows s) → byte 0 setup / 32 % 4 ≡ 2
     → (stopped.answer ≡ running.answer)
     × (stopped.reply ≡ running.reply)
-    × (m.shows stopped.next ≡ stoppedAs (m.shows running.next)))
+    × (m.shows stopped.next ≡ stopped_as (m.shows running.next)))
