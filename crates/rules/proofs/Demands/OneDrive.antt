@@ -25,7 +25,7 @@ use Rattle.rules.specs.Requests.{Named, Unknown, Known, Describes, setup_of, req
 use Rattle.rules.specs.Packets.{command_of, block_of, direction_of, lun_of, signature_of, sensible, meaningful, recognises, begins, command_taken}
 use Rattle.rules.specs.Operations.{codes, action, operations_of}
 use Rattle.rules.specs.Answers.{packet_answer}
-use Rattle.rules.specs.Step.{Event, BusReset, Control, Packet, Report, StatusRequest, Burst, EndMark, Outcome, packet_makes, packet_answers, packet_changes, answer, done, damaged, given, changing, change, step, rules, after, reached}
+use Rattle.rules.specs.Step.{Event, BusReset, Control, Packet, Report, StatusRequest, Burst, EndMark, Outcome, packet_makes, packet_answers, packet_changes, done, damaged, given, changing, change, step, rules, after, reached}
 use Rattle.rules.specs.Demands.Drives.{BusyKeepsLun, meaningful_before, packet_before, step_before, as_before, OneDriveIsBefore}
 use Rattle.rules.proofs.Demands.Operations.{counted}
 use Rattle.rules.proofs.Demands.Makers.{codes-length, packet-leaves}

@@ -14,9 +14,8 @@ use Rattle.rules.specs.declared.Direction.TheVariants.{Out, In}
 use Rattle.rules.specs.declared.Drives.{Drives}
 use Rattle.rules.specs.declared.Drives.TheVariants.{One, Two}
 use Rattle.rules.specs.declared.Lun.TheVariants.{Lun0, Lun1}
-use Rattle.rules.specs.Words.{byte, long, bit, bit_of, one, Check, first}
+use Rattle.rules.specs.Words.{byte, long, bit, bit_of, one, Check}
 use Rattle.rules.specs.Held.{World, drive_count, lun_number}
-use Rattle.rules.specs.Changes.{made}
 use Rattle.rules.specs.Packets.{inward, readable, command_of, block_of, direction_of, drive_of, lun_of, signature_of, valid, sensible, meaningful, recognised, recognises}
 use Rattle.rules.specs.Operations.{codes, operations_of}
 use Rattle.rules.specs.Answers.{packet_checks, packet_answer}
