@@ -4,3 +4,4 @@ pub mod Setting
 pub mod Answers
 pub mod Mended
 pub mod Listed
+pub mod Unique
