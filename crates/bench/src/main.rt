@@ -1,11 +1,12 @@
 // The bench: records from standard input go through the bridge, and what it answers goes to standard output.
 #![tactic(auto)]
 
-ghost use Rattle.std.specs.Prelude.{◌+◌, ◌≤◌, length};
+ghost use Rattle.std.specs.Prelude.{◌≡◌, ◌+◌, ◌≤◌, length, IfOk, OnErr};
 ghost use Rattle.bench.specs.Streams.{Inside};
 
-use libc::{STDIN_FILENO, STDOUT_FILENO};
 use rules::{Bridge, Dock, Drives, PageSize};
+use std::io;
+use std::io::{Read, Write};
 
 // The bridge, and of the block that was read the part from `start` to `end` that is still to be taken. `last`: the input has ended.
 #[derive(Clone, Copy)]
@@ -29,34 +30,36 @@ fn to_front(input: &mut [u8], start: usize, n: usize)
 }
 
 // Waits for more input, behind what is still to be taken.
-fn refilled(s: Stream, input: &mut [u8]) -> Stream
+fn refilled(rt: &HostRuntime, s: Stream, input: &mut [u8]) -> io::Result<Stream>
     requires { Inside s input.old }
-    ensures { Inside result input.new }
+    ensures ok { IfOk result (λ next. Inside next input.new) }
+    ensures err { OnErr result (length input.new ≡ length input.old) }
 {
     let bridge = s.bridge;
     let n = s.end - s.start;
     to_front(input, s.start, n);
-    let got = libc::read(STDIN_FILENO, &mut input[n..]);
-    let more = io::count(got, &input[n..]);
-    Stream {
+    let more = rt.stdin().read(&mut input[n..])?;
+    Ok(Stream {
         bridge: bridge,
         start: 0,
         end: n + more,
         last: more == 0,
         going: true,
-    }
+    })
 }
 
 // Takes what is there and writes its lines, and waits only when nothing could be taken.
 fn turned(
+    rt: &HostRuntime,
     s: Stream,
     bytes: &mut [u8; 16],
     input: &mut [u8],
     memory: &mut [u8],
     output: &mut [u8],
-) -> Stream
+) -> io::Result<Stream>
     requires { Inside s input.old }
-    ensures { Inside result input.new }
+    ensures ok { IfOk result (λ next. Inside next input.new) }
+    ensures err { OnErr result (length input.new ≡ length input.old) }
 {
     let before = s.bridge;
     let start = s.start;
@@ -64,22 +67,27 @@ fn turned(
     let ran = records::run(before, bytes, &input[start..end], s.last, memory, output);
     let bridge = ran.bridge;
     let written = ran.written;
-    let is_written = io::write_all(STDOUT_FILENO, &output[..written]);
+    rt.stdout().write_all(&output[..written])?;
     let next = Stream {
         bridge: bridge,
         start: start + ran.used,
         end: end,
         last: s.last,
-        going: is_written & !ran.torn & !(s.last & (ran.used == 0)),
+        going: !ran.torn & !(s.last & (ran.used == 0)),
     };
     if next.going & (ran.used == 0) {
-        return refilled(next, input);
+        return refilled(rt, next, input);
     }
-    next
+    Ok(next)
 }
 
 // A proved loop has to end, and nothing says that a stream does: it counts down from a number that no run uses up.
-fn serve(input: &mut [u8], memory: &mut [u8], output: &mut [u8]) {
+fn serve(
+    rt: &HostRuntime,
+    input: &mut [u8],
+    memory: &mut [u8],
+    output: &mut [u8],
+) -> io::Result<()> {
     let mut bytes = rules::power_on_bytes();
     let dock = Dock {
         bus_powered: false,
@@ -95,14 +103,15 @@ fn serve(input: &mut [u8], memory: &mut [u8], output: &mut [u8]) {
     };
     let mut turns = u64::MAX;
     while s.going & (turns > 0) {
-        s = turned(s, &mut bytes, input, memory, output);
+        s = turned(rt, s, &mut bytes, input, memory, output)?;
         turns -= 1;
     }
+    Ok(())
 }
 
-fn main() {
+fn main(rt: HostRuntime) -> io::Result<()> {
     let mut memory = [0xFFu8; 2048];
-    let mut input = io::large_buffer();
-    let mut output = io::large_buffer();
-    serve(&mut input, &mut memory, &mut output);
+    let mut input = [0u8; 65536];
+    let mut output = [0u8; 65536];
+    serve(&rt, &mut input, &mut memory, &mut output)
 }
