@@ -13,8 +13,8 @@ use Rattle.rules.specs.Requests.{Named, Unknown, Known, Describes, setup_of, req
 use Rattle.rules.specs.Answers.{seen_of}
 use Rattle.rules.specs.Step.{Control, done}
 use Rattle.rules.specs.Promise.{left_at, left, leaves, served}
-use Rattle.rules.proofs.Checks.{request_undamaged, request-passed}
-use Rattle.rules.proofs.Promises.{control_answer, control-refused, control-done, control-found}
+use Rattle.rules.proofs.Checks.{request_undamaged, request_passed}
+use Rattle.rules.proofs.Promises.{control_answer, control_refused, control_done, control_found}
 use Rattle.requests.specs.declared.Judgement.{Judgement}
 use Rattle.requests.specs.declared.Judgement.TheVariants.{Refused, Granted, Found}
 use Rattle.requests.specs.Judgements.{judged, judged_as}
@@ -38,18 +38,18 @@ module _ (w : World) (setup host room : List ℕ) where
       refuses : done answer ≡ false → By (Refused answer)
       refuses d =
           rw (request_undamaged (seen_of w) w.memory setup (length host) (length room))
-          at (control-refused w setup host room answer refl d)
+          at (control_refused w setup host room answer refl d)
 
       known : answer ≡ 0 → is_unknown (request_of s) ≡ false
-      known z = (request-passed (seen_of w) w.memory setup (length host) (length room) z).1.1.0
+      known z = (request_passed (seen_of w) w.memory setup (length host) (length room) z).1.1.0
 
       go : (q : Named) → request_of s ≡ q → (t : Bool) → done answer ≡ t → By (judged_as (seen_of w) w.memory q s answer)
       go Unknown e true d = absurd (true≢false (rw e at (known (eqb-true answer 0 d))))
       go Unknown e false d = refuses d
-      go (Known r) e true d = rw d (λ sixteen. control-done w setup host room r e sixteen (eqb-true answer 0 d))
+      go (Known r) e true d = rw d (λ sixteen. control_done w setup host room r e sixteen (eqb-true answer 0 d))
       go (Known r) e false d = rw d (refuses d)
-      go Describes e true d = rw d (control-found w setup host room e (eqb-true answer 0 d))
+      go Describes e true d = rw d (control_found w setup host room e (eqb-true answer 0 d))
       go Describes e false d = rw d (refuses d)
 
-  pub by-judgement : {j i : Judgement} → j ≡ judged (seen_of w) w.memory (control_answer w setup host room) (setup_of setup) → j ≡ i → By i
-  by-judgement e k = subst By (sym e ∙ k) right
+  pub by_judgement : {j i : Judgement} → j ≡ judged (seen_of w) w.memory (control_answer w setup host room) (setup_of setup) → j ≡ i → By i
+  by_judgement e k = subst By (sym e ∙ k) right

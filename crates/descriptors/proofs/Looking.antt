@@ -27,8 +27,8 @@ module _ (powered : Bool) (named : StringIndex) (memory : List ℕ) (value : ℕ
   abbrev found : Found
   found = looked powered named memory value
 
-  pub not-answered : answered (type_in value) (index_in value) ≡ false → No 18 ≡ found
-  not-answered a = rw a
+  pub not_answered : answered (type_in value) (index_in value) ≡ false → No 18 ≡ found
+  not_answered a = rw a
 
   -- with its place found, and the length of its head
   module _ (a : answered (type_in value) (index_in value) ≡ true) {address : Address} {start head : ℕ} (placed : address ≡ place_in powered named value)
@@ -36,13 +36,13 @@ module _ (powered : Bool) (named : StringIndex) (memory : List ℕ) (value : ℕ
     from : start ≡ number_of (place_in powered named value)
     from = starts ∙ ap number_of placed
 
-    pub head-cut : length memory < start + head → No 19 ≡ found
-    head-cut h = rw (a, lt-ltb _ _ (rw (from, heads) at h))
+    pub head_cut : length memory < start + head → No 19 ≡ found
+    head_cut h = rw (a, lt-ltb _ _ (rw (from, heads) at h))
 
     -- with the head there, and how long it says that the descriptor is
     module _ (inside : start + head ≤ length memory) {n : ℕ} (says : n ≡ length_at (type_in value) memory start) where
-      pub no-head : (not (eqb (byte (start + 1) memory) (type_in value)) || ltb n head) ≡ true → No 18 ≡ found
-      no-head h = rw (a, le-ltb _ _ (rw (from, heads) at inside), rw (says, from, heads) at h)
+      pub no_head : (not (eqb (byte (start + 1) memory) (type_in value)) || ltb n head) ≡ true → No 18 ≡ found
+      no_head h = rw (a, le-ltb _ _ (rw (from, heads) at inside), rw (says, from, heads) at h)
 
       module _ (whole : (not (eqb (byte (start + 1) memory) (type_in value)) || ltb n head) ≡ false) where
         pub cut : length memory < start + n → No 19 ≡ found

@@ -11,9 +11,9 @@ use borrow.Author.Tests.{leb-true, leb-false, ltb-true, ltb-false, lt-ltb, le-lt
 use Rattle.rules.specs.Words.{byte, over}
 use Rattle.rules.specs.Held.{holding}
 use Rattle.rules.specs.Bursts.{kept}
-use Rattle.rules.proofs.Bursts.{held_whole, held_too_long, held-behind}
+use Rattle.rules.proofs.Bursts.{held_whole, held_too_long, held_behind}
 use Rattle.rules.proofs.Rows.{over-length, over-laid, over_pastes}
-use Rattle.image.proofs.Rows.{by_bytes, copied-back}
+use Rattle.image.proofs.Rows.{by_bytes, copied_back}
 use Rattle.image.specs.Image.{held_of, world_of, added, BurstInStep, BehindTheCount}
 
 -- ---- how a burst is added
@@ -26,7 +26,7 @@ module _ (burst image : List ℕ) {came : List ℕ} {n : ℕ} (cut : came ≡ ta
   fits h long =
       let whole : came ≡ burst = cut ∙ take_all 32 burst (omega (arith, ap length cut, length-take 32 burst)) in
       rw (← whole, ← counted, le-ltb 31 (n + length came) h)
-      (copied-back image (over (drop 30 image) n came) (n + length came) long (omega (arith, over-length (drop 30 image) n came, length-drop 30 image)))
+      (copied_back image (over (drop 30 image) n came) (n + length came) long (omega (arith, over-length (drop 30 image) n came, length-drop 30 image)))
 
 pub added-length : (burst image : List ℕ) → length (added burst image) ≡ length image
 added-length burst image = go (ltb 31 (byte 61 image + length burst))
@@ -44,8 +44,8 @@ abbrev held_from : List ℕ → List ℕ
 held_from t = kept (take (byte 31 t) t)
 
 -- no more than 32 bytes are as long as what is held of them
-pub held-counted : (s : List ℕ) → length s ≤ 32 → length (kept s) ≡ length s
-held-counted s h = go (leb (length s) 31) refl
+pub held_counted : (s : List ℕ) → length s ≤ 32 → length (kept s) ≡ length s
+held_counted s h = go (leb (length s) 31) refl
   where
     go : (b : Bool) → leb (length s) 31 ≡ b → length (kept s) ≡ length s
     go true e = ap length (held_whole s (leb-true (length s) 31 e))
@@ -59,16 +59,16 @@ take_again (suc n) [] = refl
 take_again (suc n) (x ∷ s) = ap (λ (l : List ℕ). x ∷ l) (take_again n s)
 
 -- what is held, by value, is so held
-pub held-by-value : (image : List ℕ) → length (drop 30 image) ≡ 32 → held_of image ≡ kept (take (length (held_of image)) (drop 30 image))
-held-by-value image h =
+pub held_by_value : (image : List ℕ) → length (drop 30 image) ≡ 32 → held_of image ≡ kept (take (length (held_of image)) (drop 30 image))
+held_by_value image h =
     let n : ℕ = byte 61 image in
     let s : List ℕ = take n (drop 30 image) in
     ap kept (sym (take_again n (drop 30 image)))
-    ∙ ap (λ (k : ℕ). kept (take k (drop 30 image))) (sym (held-counted s (omega (arith, length-take n (drop 30 image)))))
+    ∙ ap (λ (k : ℕ). kept (take k (drop 30 image))) (sym (held_counted s (omega (arith, length-take n (drop 30 image)))))
 
 -- a row over another as long
-over-all : (row xs : List ℕ) → length xs ≡ length row → over row 0 xs ≡ xs
-over-all row xs e = over-laid row xs (omega arith) ∙ rw (e, drop-length row) (append-nil xs)
+over_all : (row xs : List ℕ) → length xs ≡ length row → over row 0 xs ≡ xs
+over_all row xs e = over-laid row xs (omega arith) ∙ rw (e, drop-length row) (append-nil xs)
 
 module _ (t burst : List ℕ) (long : length t ≡ 32) where
   tail_too_much : 31 < byte 31 t + length burst → held_from (set t 31 32) ≡ kept (held_from t ++ burst)
@@ -76,28 +76,28 @@ module _ (t burst : List ℕ) (long : length t ≡ 32) where
       let counted : byte 31 (set t 31 32) ≡ 32 = get_or-set_same t 31 32 0 (omega arith) in
       held_too_long (take (byte 31 (set t 31 32)) (set t 31 32)) (omega (arith, length-take (byte 31 (set t 31 32)) (set t 31 32), length-set t 31 32))
       ∙ sym (held_too_long (take (byte 31 t) t ++ burst) (omega (arith, length-append (take (byte 31 t) t) burst, length-take (byte 31 t) t)))
-      ∙ sym (held-behind (take (byte 31 t) t) burst)
+      ∙ sym (held_behind (take (byte 31 t) t) burst)
 
-  tail-fits : byte 31 t + length burst ≤ 31
+  tail_fits : byte 31 t + length burst ≤ 31
       → held_from (set (over t 0 (over t (byte 31 t) burst)) 31 (byte 31 t + length burst)) ≡ kept (held_from t ++ burst)
-  tail-fits h =
+  tail_fits h =
       let k : ℕ = byte 31 t + length burst in
       let now : List ℕ = over t (byte 31 t) burst in
       let counted : byte 31 (set now 31 k) ≡ k = get_or-set_same now 31 k 0 (omega (arith, over-length t (byte 31 t) burst)) in
-      rw (over-all t now (over-length t (byte 31 t) burst), counted, take-set-le k now 31 k h, over_pastes t (byte 31 t) burst (length burst) (omega arith), take-paste t (byte 31 t) burst (length burst) (omega arith) (omega arith), take-length burst)
-      (sym (held-behind (take (byte 31 t) t) burst))
+      rw (over_all t now (over-length t (byte 31 t) burst), counted, take-set-le k now 31 k h, over_pastes t (byte 31 t) burst (length burst) (omega arith), take-paste t (byte 31 t) burst (length burst) (omega arith) (omega arith), take-length burst)
+      (sym (held_behind (take (byte 31 t) t) burst))
 
 -- ---- an image with another tail stands for the same, but for what is held
 
 module _ (image : List ℕ) (h : length image ≡ 62) where
-  held-apart : (t memory : List ℕ) → world_of (take 30 image ++ t) memory ≡ holding (held_from t) (world_of image memory)
-  held-apart t memory = by_bytes 62 image h (λ i. world_of (take 30 i ++ t) memory ≡ holding (held_from t) (world_of i memory)) refl
+  held_apart : (t memory : List ℕ) → world_of (take 30 image ++ t) memory ≡ holding (held_from t) (world_of image memory)
+  held_apart t memory = by_bytes 62 image h (λ i. world_of (take 30 i ++ t) memory ≡ holding (held_from t) (world_of i memory)) refl
 
-  own-tail : (memory : List ℕ) → (world_of image memory).held ≡ held_from (drop 30 image)
-  own-tail memory = by_bytes 62 image h (λ i. (world_of i memory).held ≡ held_from (drop 30 i)) refl
+  own_tail : (memory : List ℕ) → (world_of image memory).held ≡ held_from (drop 30 image)
+  own_tail memory = by_bytes 62 image h (λ i. (world_of i memory).held ≡ held_from (drop 30 i)) refl
 
-  tail-length : length (drop 30 image) ≡ 32
-  tail-length = omega (arith, length-drop 30 image)
+  tail_length : length (drop 30 image) ≡ 32
+  tail_length = omega (arith, length-drop 30 image)
 
   count_in_tail : byte 61 image ≡ byte 31 (drop 30 image)
   count_in_tail = by_bytes 62 image h (λ i. byte 61 i ≡ byte 31 (drop 30 i)) refl
@@ -122,21 +122,21 @@ burst_in_step burst image memory h = go (ltb 31 (n + length burst)) refl
         → world_of now memory ≡ holding (kept ((world_of image memory).held ++ burst)) (world_of image memory)
     stands now now' i e =
         ap (λ (i : List ℕ). world_of i memory) i
-        ∙ held-apart image h now' memory
+        ∙ held_apart image h now' memory
         ∙ ap (λ (held : List ℕ). holding held (world_of image memory))
-        (e ∙ ap (λ (held : List ℕ). kept (held ++ burst)) (sym (own-tail image h memory)))
+        (e ∙ ap (λ (held : List ℕ). kept (held ++ burst)) (sym (own_tail image h memory)))
 
     go : (b : Bool) → ltb 31 (n + length burst) ≡ b
         → world_of (cond b (set image 61 32) (set (over image 30 (over t n burst)) 61 (n + length burst))) memory
         ≡ holding (kept ((world_of image memory).held ++ burst)) (world_of image memory)
     go true e =
         stands (set image 61 32) (set t 31 32) (set_in_tail image h 32)
-        (tail_too_much t burst (tail-length image h) (rw (count_in_tail image h) at (ltb-true 31 (n + length burst) e)))
+        (tail_too_much t burst (tail_length image h) (rw (count_in_tail image h) at (ltb-true 31 (n + length burst) e)))
     go false e =
         stands (set (over image 30 (over t n burst)) 61 (n + length burst)) (set (over t 0 (over t n burst)) 31 (n + length burst))
         (laid_in_tail image h (over t n burst) (n + length burst))
         (subst (λ (k : ℕ). held_from (set (over t 0 (over t k burst)) 31 (k + length burst)) ≡ kept (held_from t ++ burst)) (sym (count_in_tail image h))
-        (tail-fits t burst (tail-length image h) (rw (count_in_tail image h) at (ltb-false 31 (n + length burst) e))))
+        (tail_fits t burst (tail_length image h) (rw (count_in_tail image h) at (ltb-false 31 (n + length burst) e))))
 
 -- ---- behind the count
 
@@ -163,7 +163,7 @@ behind_the_count front held held' memory count f long long' same =
     let image : List ℕ = front ++ (held ++ count ∷ []) in
     let whole : length image ≡ 62 = omega (arith, length-append front (held ++ count ∷ []), length-append held (count ∷ [])) in
     let own : take 30 image ≡ front = take_at front (held ++ count ∷ []) 30 f in
-    let stands : (now : List ℕ) → world_of (front ++ now) memory ≡ holding (held_from now) (world_of image memory) = λ now. rw own at (held-apart image whole now memory) in
+    let stands : (now : List ℕ) → world_of (front ++ now) memory ≡ holding (held_from now) (world_of image memory) = λ now. rw own at (held_apart image whole now memory) in
     ap (λ (i : List ℕ). world_of i memory) (append_assoc front held (count ∷ []))
     ∙ stands (held ++ count ∷ [])
     ∙ ap (λ (h : List ℕ). holding h (world_of image memory)) (tails_agree held held' count long long' same)

@@ -21,7 +21,7 @@ use Rattle.rules.specs.Changes.{made, drops}
 use Rattle.rules.specs.Bursts.{kept}
 use Rattle.rules.specs.Demands.Sizes.{Sized}
 use Rattle.rules.proofs.Rows.{over-length, four_bytes}
-use Rattle.rules.proofs.Demands.Boundary.{none-given}
+use Rattle.rules.proofs.Demands.Boundary.{none_given}
 use Rattle.image.proofs.Rows.{row, row-set, by_bytes}
 use Rattle.image.specs.Image.{bytes_of, decode, held_of, world_of, dock_byte, powered, dropped, put, PowersOn, InStep}
 
@@ -29,30 +29,30 @@ use Rattle.image.specs.Image.{bytes_of, decode, held_of, world_of, dock_byte, po
 abbrev On : Dock → List ℕ → List ℕ → Type 0
 On dock memory bytes = world_of (bytes ++ replicate 13 0 ++ dock_byte dock ∷ replicate 32 0) memory ≡ world (power_on dock) bytes memory
 
-on-bytes : (powered : Bool) (page : PageSize) (drives : Drives) (memory bytes : List ℕ) → On (docked powered page drives) memory (row 0 16 bytes)
+on_bytes : (powered : Bool) (page : PageSize) (drives : Drives) (memory bytes : List ℕ) → On (docked powered page drives) memory (row 0 16 bytes)
 unfolding kept
-on-bytes true Of32 One memory bytes = refl
-on-bytes true Of64 One memory bytes = refl
-on-bytes true Of128 One memory bytes = refl
-on-bytes true Of256 One memory bytes = refl
-on-bytes false Of32 One memory bytes = refl
-on-bytes false Of64 One memory bytes = refl
-on-bytes false Of128 One memory bytes = refl
-on-bytes false Of256 One memory bytes = refl
-on-bytes true Of32 Two memory bytes = refl
-on-bytes true Of64 Two memory bytes = refl
-on-bytes true Of128 Two memory bytes = refl
-on-bytes true Of256 Two memory bytes = refl
-on-bytes false Of32 Two memory bytes = refl
-on-bytes false Of64 Two memory bytes = refl
-on-bytes false Of128 Two memory bytes = refl
-on-bytes false Of256 Two memory bytes = refl
+on_bytes true Of32 One memory bytes = refl
+on_bytes true Of64 One memory bytes = refl
+on_bytes true Of128 One memory bytes = refl
+on_bytes true Of256 One memory bytes = refl
+on_bytes false Of32 One memory bytes = refl
+on_bytes false Of64 One memory bytes = refl
+on_bytes false Of128 One memory bytes = refl
+on_bytes false Of256 One memory bytes = refl
+on_bytes true Of32 Two memory bytes = refl
+on_bytes true Of64 Two memory bytes = refl
+on_bytes true Of128 Two memory bytes = refl
+on_bytes true Of256 Two memory bytes = refl
+on_bytes false Of32 Two memory bytes = refl
+on_bytes false Of64 Two memory bytes = refl
+on_bytes false Of128 Two memory bytes = refl
+on_bytes false Of256 Two memory bytes = refl
 
 pub powers_on : PowersOn
 powers_on start memory =
     let bytes : List ℕ = start_bytes start in
     by_bytes 16 bytes (over-length power_on_bytes 2 start.settings) (On start.dock memory)
-    (on-bytes start.dock.bus_powered start.dock.page start.dock.drives memory bytes)
+    (on_bytes start.dock.bus_powered start.dock.page start.dock.drives memory bytes)
 
 pub powered-length : (start : Start) → length (powered start) ≡ 62
 powered-length start =
@@ -73,37 +73,37 @@ module _ (b i : List ℕ) where
   abbrev image : List ℕ
   image = row 0 62 i
 
-  put-bytes : (c : Change) → Sized c → (memory : List ℕ) → Puts c bytes image memory
+  put_bytes : (c : Change) → Sized c → (memory : List ℕ) → Puts c bytes image memory
   unfolding over kept
-  put-bytes Nothing z memory = refl
-  put-bytes (Sets true) z memory = refl
-  put-bytes (Sets false) z memory = refl
-  put-bytes Awaits z memory = refl
-  put-bytes Resets z memory = refl
-  put-bytes Drops z memory = refl
-  put-bytes (Begins Out Lun0 tag l) z memory = rw (four_bytes tag z.0, four_bytes l z.1)
-  put-bytes (Begins Out Lun1 tag l) z memory = rw (four_bytes tag z.0, four_bytes l z.1)
-  put-bytes (Begins In Lun0 tag l) z memory = rw (four_bytes tag z.0, four_bytes l z.1)
-  put-bytes (Begins In Lun1 tag l) z memory = rw (four_bytes tag z.0, four_bytes l z.1)
-  put-bytes (Finishes Out true status tag residue) z memory = rw (four_bytes tag z.0, four_bytes residue z.1)
-  put-bytes (Finishes Out false status tag residue) z memory = rw (four_bytes tag z.0, four_bytes residue z.1)
-  put-bytes (Finishes In true status tag residue) z memory = rw (four_bytes tag z.0, four_bytes residue z.1)
-  put-bytes (Finishes In false status tag residue) z memory = rw (four_bytes tag z.0, four_bytes residue z.1)
-  put-bytes Stops z memory = refl
-  put-bytes Notes z memory = refl
-  put-bytes (Clears Out) z memory = refl
-  put-bytes (Clears In) z memory = refl
-  put-bytes Ends z memory = refl
+  put_bytes Nothing z memory = refl
+  put_bytes (Sets true) z memory = refl
+  put_bytes (Sets false) z memory = refl
+  put_bytes Awaits z memory = refl
+  put_bytes Resets z memory = refl
+  put_bytes Drops z memory = refl
+  put_bytes (Begins Out Lun0 tag l) z memory = rw (four_bytes tag z.0, four_bytes l z.1)
+  put_bytes (Begins Out Lun1 tag l) z memory = rw (four_bytes tag z.0, four_bytes l z.1)
+  put_bytes (Begins In Lun0 tag l) z memory = rw (four_bytes tag z.0, four_bytes l z.1)
+  put_bytes (Begins In Lun1 tag l) z memory = rw (four_bytes tag z.0, four_bytes l z.1)
+  put_bytes (Finishes Out true status tag residue) z memory = rw (four_bytes tag z.0, four_bytes residue z.1)
+  put_bytes (Finishes Out false status tag residue) z memory = rw (four_bytes tag z.0, four_bytes residue z.1)
+  put_bytes (Finishes In true status tag residue) z memory = rw (four_bytes tag z.0, four_bytes residue z.1)
+  put_bytes (Finishes In false status tag residue) z memory = rw (four_bytes tag z.0, four_bytes residue z.1)
+  put_bytes Stops z memory = refl
+  put_bytes Notes z memory = refl
+  put_bytes (Clears Out) z memory = refl
+  put_bytes (Clears In) z memory = refl
+  put_bytes Ends z memory = refl
 
 pub in_step : InStep
 in_step c bytes image memory n h z =
     by_bytes 16 bytes n (λ b. Puts c b image memory)
-    (by_bytes 62 image h (λ i. Puts c (row 0 16 bytes) i memory) (put-bytes bytes image c z memory))
+    (by_bytes 62 image h (λ i. Puts c (row 0 16 bytes) i memory) (put_bytes bytes image c z memory))
 
 -- ---- where what is held was dropped before
 
-dropped-apart : (bytes image : List ℕ) → length bytes ≡ 16 → length image ≡ 62 → dropped (bytes ++ drop 16 image) ≡ bytes ++ drop 16 (dropped image)
-dropped-apart bytes image n h =
+dropped_apart : (bytes image : List ℕ) → length bytes ≡ 16 → length image ≡ 62 → dropped (bytes ++ drop 16 image) ≡ bytes ++ drop 16 (dropped image)
+dropped_apart bytes image n h =
     by_bytes 16 bytes n (λ b. dropped (b ++ drop 16 image) ≡ b ++ drop 16 (dropped image))
     (by_bytes 62 image h (λ i. dropped (row 0 16 bytes ++ drop 16 i) ≡ row 0 16 bytes ++ drop 16 (dropped i)) refl)
 
@@ -111,25 +111,25 @@ dropped-apart bytes image n h =
 pub dropped_decodes : (image : List ℕ) → decode (dropped image) ≡ decode image
 dropped_decodes image = ap (λ (r : List ℕ). decode (replicate 16 0 ++ r)) (row-set 16 14 61 0 image (omega arith))
 
-pub dropped-bytes : (image : List ℕ) → bytes_of (dropped image) ≡ bytes_of image
-dropped-bytes image = take-set-le 16 image 61 0 (omega arith)
+pub dropped_bytes : (image : List ℕ) → bytes_of (dropped image) ≡ bytes_of image
+dropped_bytes image = take-set-le 16 image 61 0 (omega arith)
 
-dropped-holds : (image : List ℕ) → length image ≡ 62 → held_of (dropped image) ≡ []
+dropped_holds : (image : List ℕ) → length image ≡ 62 → held_of (dropped image) ≡ []
 unfolding kept
-dropped-holds image h = by_bytes 62 image h (λ i. held_of (dropped i) ≡ []) refl
+dropped_holds image h = by_bytes 62 image h (λ i. held_of (dropped i) ≡ []) refl
 
 pub dropped_in_step : (c : Change) (bytes image memory : List ℕ) → length bytes ≡ 16 → length image ≡ 62 → Sized c
     → world_of (put c (dropped (bytes ++ drop 16 image))) memory ≡ world (made c (decode image)) bytes memory
 dropped_in_step c bytes image memory n h z =
-    ap (λ (i : List ℕ). world_of (put c i) memory) (dropped-apart bytes image n h)
+    ap (λ (i : List ℕ). world_of (put c i) memory) (dropped_apart bytes image n h)
     ∙ in_step c bytes (dropped image) memory n (length-set image 61 0 ∙ h) z
-    ∙ rw (dropped-holds image h, dropped_decodes image, none-given)
+    ∙ rw (dropped_holds image h, dropped_decodes image, none_given)
 
 -- ---- and it stays an image
 
-pub put-length : (c : Change) (image : List ℕ) → length image ≡ 62 → length (put c image) ≡ 62
+pub put_length : (c : Change) (image : List ℕ) → length image ≡ 62 → length (put c image) ≡ 62
 unfolding over
-put-length c image h = by_bytes 62 image h (λ i. length (put c i) ≡ 62) (go c)
+put_length c image h = by_bytes 62 image h (λ i. length (put c i) ≡ 62) (go c)
   where
     go : (c : Change) → length (put c (row 0 62 image)) ≡ 62
     go Nothing = refl

@@ -34,13 +34,13 @@ over-front [] rest (suc at) xs h = absurd (omega arith)
 over-front (r ∷ front) rest (suc at) xs h = ap (λ (l : List ℕ). r ∷ l) (over-front front rest at xs (omega arith))
 
 -- its last 32 bytes, copied out
-pub copied-out : (image : List ℕ) → length image ≡ 62 → over (replicate 32 0) 0 (take 32 (drop 30 image)) ≡ drop 30 image
+pub copied_out : (image : List ℕ) → length image ≡ 62 → over (replicate 32 0) 0 (take 32 (drop 30 image)) ≡ drop 30 image
 unfolding over
-copied-out image h = by_bytes 62 image h (λ i. over (replicate 32 0) 0 (take 32 (drop 30 i)) ≡ drop 30 i) refl
+copied_out image h = by_bytes 62 image h (λ i. over (replicate 32 0) 0 (take 32 (drop 30 i)) ≡ drop 30 i) refl
 
 -- .. and back: a count is stored and then the 31 bytes before it, or all 32 and then a count
-pub copied-back : (image tail : List ℕ) (n : ℕ) → length image ≡ 62 → length tail ≡ 32 → over (set image 61 n) 30 (take 31 tail) ≡ set (over image 30 tail) 61 n
+pub copied_back : (image tail : List ℕ) (n : ℕ) → length image ≡ 62 → length tail ≡ 32 → over (set image 61 n) 30 (take 31 tail) ≡ set (over image 30 tail) 61 n
 unfolding over
-copied-back image tail n h long =
+copied_back image tail n h long =
     by_bytes 62 image h (λ i. over (set i 61 n) 30 (take 31 tail) ≡ set (over i 30 tail) 61 n)
     (by_bytes 32 tail long (λ t. over (set (row 0 62 image) 61 n) 30 (take 31 t) ≡ set (over (row 0 62 image) 30 t) 61 n) refl)

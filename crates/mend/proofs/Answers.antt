@@ -16,9 +16,9 @@ module _ (image list : List ℕ) where
     pub no_room : length list < length (changes image) → mends image list ≡ left (mending 25 0) image list
     no_room h = rw (le-ltb (length image) 0x89 long, lt-ltb (length list) (length (changes image)) h) refl
 
-    pub is-done : length (changes image) ≤ length list
+    pub is_done : length (changes image) ≤ length list
         → mends image list ≡ left (mending 0 (length (changes image))) (mended image) (laid (entries image) list)
-    is-done h = rw (le-ltb (length image) 0x89 long, le-ltb (length list) (length (changes image)) h) refl
+    is_done h = rw (le-ltb (length image) 0x89 long, le-ltb (length list) (length (changes image)) h) refl
 
 pub refused_is_as_found : RefusedIsAsFound
-refused_is_as_found image list = (too_short image list, no_room image list, is-done image list)
+refused_is_as_found image list = (too_short image list, no_room image list, is_done image list)

@@ -17,14 +17,14 @@ use Rattle.mend.specs.Mend.{Fixed, fixed_bytes, set_by, each_byte, fixed, second
 
 -- ---- every byte by its address
 
-pub each-length : (f : ℕ → ℕ → ℕ) (a : ℕ) (bs : List ℕ) → length (each_byte f a bs) ≡ length bs
-each-length f a [] = refl
-each-length f a (b ∷ bs) = ap suc (each-length f (suc a) bs)
+pub each_length : (f : ℕ → ℕ → ℕ) (a : ℕ) (bs : List ℕ) → length (each_byte f a bs) ≡ length bs
+each_length f a [] = refl
+each_length f a (b ∷ bs) = ap suc (each_length f (suc a) bs)
 
-each-byte_lem : (f : ℕ → ℕ → ℕ) (a : ℕ) (bs : List ℕ) (k : ℕ) → k < length bs → byte k (each_byte f a bs) ≡ f (a + k) (byte k bs)
-each-byte_lem f a [] k h = absurd (omega arith)
-each-byte_lem f a (b ∷ bs) zero h = rw add-zero
-each-byte_lem f a (b ∷ bs) (suc k) h = rw (add-suc, ← suc-add) (each-byte_lem f (suc a) bs k (omega arith))
+each_byte_lem : (f : ℕ → ℕ → ℕ) (a : ℕ) (bs : List ℕ) (k : ℕ) → k < length bs → byte k (each_byte f a bs) ≡ f (a + k) (byte k bs)
+each_byte_lem f a [] k h = absurd (omega arith)
+each_byte_lem f a (b ∷ bs) zero h = rw add-zero
+each_byte_lem f a (b ∷ bs) (suc k) h = rw (add-suc, ← suc-add) (each_byte_lem f (suc a) bs k (omega arith))
 
 -- ---- the table
 
@@ -38,27 +38,27 @@ set_again (f ∷ fs) a b = go (eqb a f.address) (set_again fs a b)
     go false e = e
 
 -- the addresses of string indexes are not in it
-pub set-index : (a b : ℕ) → (a ≡ 0x32) ⊎ (a ≡ 0x86) → set_by fixed_bytes a b ≡ b
-set-index a b (inl e) = rw e refl
-set-index a b (inr e) = rw e refl
+pub set_index : (a b : ℕ) → (a ≡ 0x32) ⊎ (a ≡ 0x86) → set_by fixed_bytes a b ≡ b
+set_index a b (inl e) = rw e refl
+set_index a b (inr e) = rw e refl
 
 pub fixed-length : (image : List ℕ) → length (fixed image) ≡ length image
-fixed-length image = each-length (set_by fixed_bytes) 0 image
+fixed-length image = each_length (set_by fixed_bytes) 0 image
 
 pub fixed-byte : (image : List ℕ) (k : ℕ) → k < length image → byte k (fixed image) ≡ set_by fixed_bytes k (byte k image)
-fixed-byte image k h = each-byte_lem (set_by fixed_bytes) 0 image k h ∙ ap (λ (a : ℕ). set_by fixed_bytes a (byte k image)) (zero-add k)
+fixed-byte image k h = each_byte_lem (set_by fixed_bytes) 0 image k h ∙ ap (λ (a : ℕ). set_by fixed_bytes a (byte k image)) (zero-add k)
 
 -- ---- string indexes
 
 -- what is judged at an address, and what is not
-pub judged-index : (image : List ℕ) (a b : ℕ) → (a ≡ 0x32) ⊎ (a ≡ 0x86) → judged_by image a b ≡ cond (lost image b) 0 b
+pub judged_index : (image : List ℕ) (a b : ℕ) → (a ≡ 0x32) ⊎ (a ≡ 0x86) → judged_by image a b ≡ cond (lost image b) 0 b
 unfolding judged_by
-judged-index image a b (inl e) = rw e refl
-judged-index image a b (inr e) = rw e refl
+judged_index image a b (inl e) = rw e refl
+judged_index image a b (inr e) = rw e refl
 
-pub judged-other : (image : List ℕ) (a b : ℕ) → (a ≡ 0x32 → ⊥) → (a ≡ 0x86 → ⊥) → judged_by image a b ≡ b
+pub judged_other : (image : List ℕ) (a b : ℕ) → (a ≡ 0x32 → ⊥) → (a ≡ 0x86 → ⊥) → judged_by image a b ≡ b
 unfolding judged_by
-judged-other image a b h g = rw (ne_eqb a 0x32 h, ne_eqb a 0x86 g) refl
+judged_other image a b h g = rw (ne_eqb a 0x32 h, ne_eqb a 0x86 g) refl
 
 -- by the second byte of a head, read from an image before its bytes are set
 module _ (image : List ℕ) (i : ℕ) {n : ℕ} (second : n ≡ second_of i) where
@@ -66,33 +66,33 @@ module _ (image : List ℕ) (i : ℕ) {n : ℕ} (second : n ≡ second_of i) whe
   unfolding lost
   lost_outside h = rw (fixed-length image, le-leb (length image) (second_of i) (omega arith)) refl
 
-  pub lost-inside : n < length image → {b : ℕ} → b ≡ set_by fixed_bytes n (byte n image) → lost (fixed image) i ≡ not (eqb b 0x03)
+  pub lost_inside : n < length image → {b : ℕ} → b ≡ set_by fixed_bytes n (byte n image) → lost (fixed image) i ≡ not (eqb b 0x03)
   unfolding lost
-  lost-inside h e =
+  lost_inside h e =
       rw (fixed-length image, lt-leb (length image) (second_of i) (omega arith), fixed-byte image (second_of i) (omega arith), e, second) refl
 
 -- ---- a mended image
 
 pub mended-length : (image : List ℕ) → length (mended image) ≡ length image
 unfolding mended
-mended-length image = each-length (judged_by (fixed image)) 0 (fixed image) ∙ fixed-length image
+mended-length image = each_length (judged_by (fixed image)) 0 (fixed image) ∙ fixed-length image
 
 pub mended-byte : (image : List ℕ) (k : ℕ) → k < length image
     → byte k (mended image) ≡ judged_by (fixed image) k (set_by fixed_bytes k (byte k image))
 unfolding mended
 mended-byte image k h =
-    each-byte_lem (judged_by (fixed image)) 0 (fixed image) k (omega (arith, fixed-length image))
+    each_byte_lem (judged_by (fixed image)) 0 (fixed image) k (omega (arith, fixed-length image))
     ∙ ap (λ (a : ℕ). judged_by (fixed image) a (byte k (fixed image))) (zero-add k)
     ∙ ap (judged_by (fixed image) k) (fixed-byte image k h)
 
-pub mended-index : (image : List ℕ) (k : ℕ) → k < length image → (k ≡ 0x32) ⊎ (k ≡ 0x86)
+pub mended_index : (image : List ℕ) (k : ℕ) → k < length image → (k ≡ 0x32) ⊎ (k ≡ 0x86)
     → byte k (mended image) ≡ cond (lost (fixed image) (byte k image)) 0 (byte k image)
-mended-index image k h e =
-    mended-byte image k h ∙ ap (judged_by (fixed image) k) (set-index k (byte k image) e) ∙ judged-index (fixed image) k (byte k image) e
+mended_index image k h e =
+    mended-byte image k h ∙ ap (judged_by (fixed image) k) (set_index k (byte k image) e) ∙ judged_index (fixed image) k (byte k image) e
 
-pub mended-fixed : (image : List ℕ) (k : ℕ) → k < length image → (k ≡ 0x32 → ⊥) → (k ≡ 0x86 → ⊥)
+pub mended_fixed : (image : List ℕ) (k : ℕ) → k < length image → (k ≡ 0x32 → ⊥) → (k ≡ 0x86 → ⊥)
     → byte k (mended image) ≡ set_by fixed_bytes k (byte k image)
-mended-fixed image k h n m = mended-byte image k h ∙ judged-other (fixed image) k (set_by fixed_bytes k (byte k image)) n m
+mended_fixed image k h n m = mended-byte image k h ∙ judged_other (fixed image) k (set_by fixed_bytes k (byte k image)) n m
 
 -- what is mended is not mended again
 module _ (image : List ℕ) (k : ℕ) where
@@ -104,7 +104,7 @@ module _ (image : List ℕ) (k : ℕ) where
       one (once b) ∙ ap (λ (n : ℕ). cond (lost image n) 0 n) (one b) ∙ kept (lost image b) (lost image (cond (lost image b) 0 b)) refl refl ∙ sym (one b)
     where
       one : (n : ℕ) → once n ≡ cond (lost image n) 0 n
-      one n = ap (judged_by image k) (set-index k n e) ∙ judged-index image k n e
+      one n = ap (judged_by image k) (set_index k n e) ∙ judged_index image k n e
 
       kept : (t u : Bool) → lost image b ≡ t → lost image (cond t 0 b) ≡ u → cond u 0 (cond t 0 b) ≡ cond t 0 b
       kept true true f g = refl
@@ -112,7 +112,7 @@ module _ (image : List ℕ) (k : ℕ) where
       kept false u f g = ap (λ (t : Bool). cond t 0 b) (sym g ∙ f)
 
   once_other : (b : ℕ) → (k ≡ 0x32 → ⊥) → (k ≡ 0x86 → ⊥) → once b ≡ set_by fixed_bytes k b
-  once_other b = judged-other image k (set_by fixed_bytes k b)
+  once_other b = judged_other image k (set_by fixed_bytes k b)
 
   once_again : (b : ℕ) → once (once b) ≡ once b
   once_again b = go (eqb k 0x32) refl (eqb k 0x86) refl
@@ -134,11 +134,11 @@ module _ (x y : List ℕ) (same : length y ≡ length x) (part : (k : ℕ) → k
     where
       go : (byte k y ≡ byte k x) ⊎ (byte k y ≡ byte k (mended x)) → set_by fixed_bytes k (byte k y) ≡ set_by fixed_bytes k (byte k x)
       go (inl e) = ap (set_by fixed_bytes k) e
-      go (inr e) = ap (set_by fixed_bytes k) (e ∙ mended-fixed x k h n m) ∙ set_again fixed_bytes k (byte k x)
+      go (inr e) = ap (set_by fixed_bytes k) (e ∙ mended_fixed x k h n m) ∙ set_again fixed_bytes k (byte k x)
 
-  lost-same : (i : ℕ) → lost (fixed y) i ≡ lost (fixed x) i
+  lost_same : (i : ℕ) → lost (fixed y) i ≡ lost (fixed x) i
   unfolding lost
-  lost-same i = go (leb (length x) (second_of i)) refl
+  lost_same i = go (leb (length x) (second_of i)) refl
     where
       go : (t : Bool) → leb (length x) (second_of i) ≡ t
           → (leb (length (fixed y)) (second_of i) || not (eqb (byte (second_of i) (fixed y)) 0x03))
@@ -148,19 +148,19 @@ module _ (x y : List ℕ) (same : length y ≡ length x) (part : (k : ℕ) → k
           let inside : second_of i < length x = leb-false (length x) (second_of i) e in
           rw (fixed-length y, fixed-length x, same, e, fixed_same (second_of i) inside (λ z. omega arith) (λ z. omega arith)) refl
 
-  judged-same : (k b : ℕ) → judged_by (fixed y) k b ≡ judged_by (fixed x) k b
+  judged_same : (k b : ℕ) → judged_by (fixed y) k b ≡ judged_by (fixed x) k b
   unfolding judged_by
-  judged-same k b = ap (λ (t : Bool). cond ((eqb k 0x32 || eqb k 0x86) && t) 0 b) (lost-same b)
+  judged_same k b = ap (λ (t : Bool). cond ((eqb k 0x32 || eqb k 0x86) && t) 0 b) (lost_same b)
 
-  byte-same : (k : ℕ) → k < length x → byte k (mended y) ≡ byte k (mended x)
-  byte-same k h = mended-byte y k (omega arith) ∙ judged-same k (set_by fixed_bytes k (byte k y)) ∙ go (part k h) ∙ sym (mended-byte x k h)
+  byte_same : (k : ℕ) → k < length x → byte k (mended y) ≡ byte k (mended x)
+  byte_same k h = mended-byte y k (omega arith) ∙ judged_same k (set_by fixed_bytes k (byte k y)) ∙ go (part k h) ∙ sym (mended-byte x k h)
     where
       go : (byte k y ≡ byte k x) ⊎ (byte k y ≡ byte k (mended x)) → once (fixed x) k (byte k y) ≡ once (fixed x) k (byte k x)
       go (inl e) = ap (once (fixed x) k) e
       go (inr e) = ap (once (fixed x) k) (e ∙ mended-byte x k h) ∙ once_again (fixed x) k (byte k x)
 
   pub still : mended y ≡ mended x
-  still = ext_get_or 0 (mended y) (mended x) (mended-length y ∙ same ∙ sym (mended-length x)) (λ k h. byte-same k (omega (arith, mended-length y)))
+  still = ext_get_or 0 (mended y) (mended x) (mended-length y ∙ same ∙ sym (mended-length x)) (λ k h. byte_same k (omega (arith, mended-length y)))
 
 -- ---- an address that is none of the thirteen
 
@@ -179,10 +179,10 @@ is_among_lem k (x ∷ xs) h = go (eqb k x) refl h (is_among_lem k xs)
     go true e h ih = inl (eqb-true k x e)
     go false e h ih = inr (ih h)
 
-pub among-is : (k : ℕ) (xs : List ℕ) → Among k xs → is_among k xs ≡ true
-among-is k [] m = elim m [ ]
-among-is k (y ∷ ys) (inl e) = rw (eq-eqb k y e) refl
-among-is k (y ∷ ys) (inr m) = rw (among-is k ys m) (or-true (eqb k y))
+pub among_is : (k : ℕ) (xs : List ℕ) → Among k xs → is_among k xs ≡ true
+among_is k [] m = elim m [ ]
+among_is k (y ∷ ys) (inl e) = rw (eq-eqb k y e) refl
+among_is k (y ∷ ys) (inr m) = rw (among_is k ys m) (or-true (eqb k y))
 
 -- all of a table is among them
 abbrev all_among : List Fixed → List ℕ → Bool
@@ -195,15 +195,15 @@ set_other (f ∷ fs) xs t a b h =
     let both = (and-eq-true_iff (is_among f.address xs) (all_among fs xs)).0 t in
     rw (ne_eqb a f.address (λ e. h (subst (λ (k : ℕ). Among k xs) (sym e) (is_among_lem f.address xs both.0)))) (set_other fs xs both.1 a b h)
 
-pub mended-other : (image : List ℕ) (k : ℕ) → (Among k thirteen → ⊥) → byte k (mended image) ≡ byte k image
-mended-other image k h = go (ltb k (length image)) refl
+pub mended_other : (image : List ℕ) (k : ℕ) → (Among k thirteen → ⊥) → byte k (mended image) ≡ byte k image
+mended_other image k h = go (ltb k (length image)) refl
   where
     apart : (n : ℕ) → is_among n thirteen ≡ true → k ≡ n → ⊥
     apart n t e = h (subst (λ (j : ℕ). Among j thirteen) (sym e) (is_among_lem n thirteen t))
 
     go : (t : Bool) → ltb k (length image) ≡ t → byte k (mended image) ≡ byte k image
     go true e =
-        mended-fixed image k (ltb-true k (length image) e) (apart 0x32 refl) (apart 0x86 refl)
+        mended_fixed image k (ltb-true k (length image) e) (apart 0x32 refl) (apart 0x86 refl)
         ∙ set_other fixed_bytes thirteen refl k (byte k image) h
     go false e =
         let out = ltb-false k (length image) e in
@@ -224,7 +224,7 @@ mended_beyond image =
     ext_get_or 0 (drop 0x89 (mended image)) (drop 0x89 image)
     (length-drop 0x89 (mended image) ∙ ap (λ (n : ℕ). n - 0x89) (mended-length image) ∙ sym (length-drop 0x89 image))
     (λ k h. get_or-drop 0x89 (mended image) k 0
-    ∙ mended-other image (0x89 + k) (λ m. let l = below (0x89 + k) thirteen 0x89 m refl in omega arith)
+    ∙ mended_other image (0x89 + k) (λ m. let l = below (0x89 + k) thirteen 0x89 m refl in omega arith)
     ∙ sym (get_or-drop 0x89 image k 0))
 
 -- mended from the front, so many bytes
@@ -239,8 +239,8 @@ module _ (image : List ℕ) (n : ℕ) (h : n ≤ length image) where
   front_length = length-take-le n (mended image) (omega (arith, mended-length image))
 
   -- the rest is as it was
-  pub half-ahead : (k : ℕ) → n ≤ k → byte k (half image n) ≡ byte k image
-  half-ahead k g =
+  pub half_ahead : (k : ℕ) → n ≤ k → byte k (half image n) ≡ byte k image
+  half_ahead k g =
       let there : n + (k - n) ≡ k = omega arith in
       ap (λ (j : ℕ). byte j (half image n)) (sym there)
       ∙ sym (get_or-drop n (half image n) (k - n) 0)
@@ -248,8 +248,8 @@ module _ (image : List ℕ) (n : ℕ) (h : n ≤ length image) where
       ∙ get_or-drop n image (k - n) 0
       ∙ ap (λ (j : ℕ). byte j image) there
 
-  half-done : (k : ℕ) → k < n → byte k (half image n) ≡ byte k (mended image)
-  half-done k g =
+  half_done : (k : ℕ) → k < n → byte k (half image n) ≡ byte k (mended image)
+  half_done k g =
       get_or-append (take n (mended image)) (drop (0 + n) image) 0 k (omega (arith, front_length)) ∙ get_or-take n (mended image) k 0 g
 
   -- one byte more
@@ -260,15 +260,15 @@ module _ (image : List ℕ) (n : ℕ) (h : n ≤ length image) where
       ∙ ap (half image) (sym (add-one n))
 
   -- it is mended to the same
-  pub half-still : mended (half image n) ≡ mended image
-  half-still = still image (half image n) half_length (λ k g. go k (ltb k n) refl)
+  pub half_still : mended (half image n) ≡ mended image
+  half_still = still image (half image n) half_length (λ k g. go k (ltb k n) refl)
     where
       go : (k : ℕ) (t : Bool) → ltb k n ≡ t → (byte k (half image n) ≡ byte k image) ⊎ (byte k (half image n) ≡ byte k (mended image))
-      go k true e = inr (half-done k (ltb-true k n e))
-      go k false e = inl (half-ahead k (ltb-false k n e))
+      go k true e = inr (half_done k (ltb-true k n e))
+      go k false e = inl (half_ahead k (ltb-false k n e))
 
-pub half-none : (image : List ℕ) → image ≡ half image 0
-half-none image = paste-zero image 0 (mended image)
+pub half_none : (image : List ℕ) → image ≡ half image 0
+half_none image = paste-zero image 0 (mended image)
 
-pub half-all : (image : List ℕ) → half image 0x89 ≡ mended image
-half-all image = ap (λ (l : List ℕ). take 0x89 (mended image) ++ l) (sym (mended_beyond image)) ∙ take-append-drop 0x89 (mended image)
+pub half_all : (image : List ℕ) → half image 0x89 ≡ mended image
+half_all image = ap (λ (l : List ℕ). take 0x89 (mended image) ++ l) (sym (mended_beyond image)) ∙ take-append-drop 0x89 (mended image)

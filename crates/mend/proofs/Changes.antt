@@ -49,13 +49,13 @@ module _ (image : List ℕ) where
       ∙ parts 0 (take n image) (take n (mended image)) (drop n image) (drop n (mended image)) (taken n h)
       ∙ ap (λ (a : ℕ). changes_to image n ++ changes_from a (drop n image) (drop n (mended image))) (zero-add (length (take n image)) ∙ length-take-le n image h)
 
-  pub front-most : (n : ℕ) → n ≤ length image → length (changes_to image n) ≤ length (changes image)
-  front-most n h =
+  pub front_most : (n : ℕ) → n ≤ length image → length (changes_to image n) ≤ length (changes image)
+  front_most n h =
       omega (arith, ap length (front n h), length-append (changes_to image n) (changes_from n (drop n image) (drop n (mended image))))
 
   -- all of them are within the shortest image that is mended
-  pub front-all : 0x89 ≤ length image → changes_to image 0x89 ≡ changes image
-  front-all h =
+  pub front_all : 0x89 ≤ length image → changes_to image 0x89 ≡ changes image
+  front_all h =
       sym
       (front 0x89 h
       ∙ ap (λ (l : List ℕ). changes_to image 0x89 ++ changes_from 0x89 (drop 0x89 image) l) (mended_beyond image)
@@ -75,16 +75,16 @@ module _ (image : List ℕ) where
     pub same_more : byte n (mended image) ≡ byte n image → changes_to image (n + 1) ≡ changes_to image n
     same_more e = one_more ∙ rw (eq-eqb (byte n image) (byte n (mended image)) (sym e)) (append-nil (changes_to image n))
 
-    pub changed-more : (byte n (mended image) ≡ byte n image → ⊥)
+    pub changed_more : (byte n (mended image) ≡ byte n image → ⊥)
         → changes_to image (n + 1) ≡ changes_to image n ++ changed n (byte n image) (byte n (mended image)) ∷ []
-    changed-more e = one_more ∙ rw (ne_eqb (byte n image) (byte n (mended image)) (λ z. e (sym z))) refl
+    changed_more e = one_more ∙ rw (ne_eqb (byte n image) (byte n (mended image)) (λ z. e (sym z))) refl
 
     -- counted, of what stands there once the image is mended
     module _ {m : ℕ} (there : m ≡ byte n (mended image)) {k : ℕ} (so_far : k ≡ length (changes_to image n)) where
       pub count_same : m ≡ byte n image → k ≡ length (changes_to image (n + 1))
       count_same e = so_far ∙ sym (ap length (same_more (sym there ∙ e)))
 
-      pub count-changed : (m ≡ byte n image → ⊥) → k + 1 ≡ length (changes_to image (n + 1))
-      count-changed e =
+      pub count_changed : (m ≡ byte n image → ⊥) → k + 1 ≡ length (changes_to image (n + 1))
+      count_changed e =
           let one : List Changed = changed n (byte n image) (byte n (mended image)) ∷ [] in
-          sym (ap length (changed-more (λ z. e (there ∙ z))) ∙ length-append (changes_to image n) one ∙ ap (λ (j : ℕ). j + 1) (sym so_far))
+          sym (ap length (changed_more (λ z. e (there ∙ z))) ∙ length-append (changes_to image n) one ∙ ap (λ (j : ℕ). j + 1) (sym so_far))

@@ -14,8 +14,8 @@ use borrow.Author.Tests.{eqb-true, eqb-false, ne_eqb, ltb-true, ltb-false}
 use Rattle.rules.specs.Words.{byte, one}
 use Rattle.mend.specs.Mend.{mended, Changed, changed, changes_from, changes}
 use Rattle.mend.specs.Mended.{Among, ChangesAreListed, ListedIsChanged, Rising, none, next, ListRises, put_back, OldBytesGiveTheImage, ThirteenAtMost}
-use Rattle.mend.proofs.Bytes.{thirteen, is_among, among-is, mended-length, mended-other}
-use Rattle.mend.proofs.Changes.{changes_to, front-all}
+use Rattle.mend.proofs.Bytes.{thirteen, is_among, among_is, mended-length, mended_other}
+use Rattle.mend.proofs.Changes.{changes_to, front_all}
 
 -- ---- each change, and nothing else
 
@@ -50,10 +50,10 @@ changes_are_listed image k d = go (ltb k (length image)) refl
 abbrev IsChange : ℕ → List ℕ → List ℕ → Changed → Type 0
 IsChange a old new c = (k : ℕ) × (k < length old) × (c ≡ changed (a + k) (byte k old) (byte k new)) × (byte k old ≡ byte k new → ⊥)
 
-is-change : (a : ℕ) (old new : List ℕ) (c : Changed) → Among c (changes_from a old new) → IsChange a old new c
-is-change a [] new c m = elim m [ ]
-is-change a (o ∷ old) [] c m = elim m [ ]
-is-change a (o ∷ old) (n ∷ new) c m = go (eqb o n) refl m (is-change (suc a) old new c)
+is_change : (a : ℕ) (old new : List ℕ) (c : Changed) → Among c (changes_from a old new) → IsChange a old new c
+is_change a [] new c m = elim m [ ]
+is_change a (o ∷ old) [] c m = elim m [ ]
+is_change a (o ∷ old) (n ∷ new) c m = go (eqb o n) refl m (is_change (suc a) old new c)
   where
     later : IsChange (suc a) old new c → IsChange a (o ∷ old) (n ∷ new) c
     later (k, h, e, d) = (suc k, omega arith, e ∙ ap (λ (i : ℕ). changed i (byte k old) (byte k new)) (suc-add a k ∙ sym (add-suc a k)), d)
@@ -68,9 +68,9 @@ is-change a (o ∷ old) (n ∷ new) c m = go (eqb o n) refl m (is-change (suc a)
     go true e m ih = later (ih m)
     go false e m ih = now m (eqb-false o n e) ih
 
-pub listed-is-changed : ListedIsChanged
+pub listed_is_changed : ListedIsChanged
 unfolding changes
-listed-is-changed image c m = go (is-change 0 image (mended image) c m)
+listed_is_changed image c m = go (is_change 0 image (mended image) c m)
   where
     go : IsChange 0 image (mended image) c
         → (c.address < length image) × (c.old ≡ byte c.address image) × (c.new ≡ byte c.address (mended image)) × (c.old ≡ c.new → ⊥)
@@ -96,9 +96,9 @@ rises a (o ∷ old) (n ∷ new) = go (eqb o n) (rises (suc a) old new)
         next a (changed a o n) (changes_from (suc a) old new) (omega arith)
         (subst (λ (k : ℕ). Rising k (changes_from (suc a) old new)) (sym (add-one a)) r)
 
-pub list-rises : ListRises
+pub list_rises : ListRises
 unfolding changes
-list-rises image = rises 0 image (mended image)
+list_rises image = rises 0 image (mended image)
 
 -- ---- the old bytes put back, of what stands behind a front that is as it was
 
@@ -146,14 +146,14 @@ few a (o ∷ old) (n ∷ new) same =
     go false e true f l = omega arith
     go false e false f l = absurd (eqb-false o n e (same zero (omega arith) (ap (λ (i : ℕ). is_among i thirteen) (add-zero a) ∙ f)))
 
-pub thirteen-at-most : ThirteenAtMost
-thirteen-at-most image long =
+pub thirteen_at_most : ThirteenAtMost
+thirteen_at_most image long =
     let n : length (take 0x89 image) ≡ 0x89 = length-take-le 0x89 image long in
     let most : length (changes_to image 0x89) ≤ many 0 (length (take 0x89 image)) =
     few 0 (take 0x89 image) (take 0x89 (mended image)) (λ k h e. at k (omega (arith, n)) (ap (λ (i : ℕ). is_among i thirteen) (sym (zero-add k)) ∙ e)) in
-    rw (← front-all image long) (rw n at most)
+    rw (← front_all image long) (rw n at most)
   where
     at : (k : ℕ) → k < 0x89 → is_among k thirteen ≡ false → byte k (take 0x89 image) ≡ byte k (take 0x89 (mended image))
     at k h e =
         get_or-take 0x89 image k 0 h
-        ∙ sym (get_or-take 0x89 (mended image) k 0 h ∙ mended-other image k (λ m. false≢true (sym e ∙ among-is k thirteen m)))
+        ∙ sym (get_or-take 0x89 (mended image) k 0 h ∙ mended_other image k (λ m. false≢true (sym e ∙ among_is k thirteen m)))

@@ -11,13 +11,13 @@ use borrow.Author.Tests.{eqb-true, eqb-false, ltb-true, ltb-false}
 use Rattle.rules.specs.Words.{byte}
 use Rattle.mend.specs.Mend.{fixed_bytes, set_by, fixed, second_of, lost, mended, changes_from, changes}
 use Rattle.mend.specs.Mended.{FixedBytesAreSet, Names, StringIndexesAreJudged, StringIndexesAreGood, NoOtherByteChanges, TwiceIsOnce}
-use Rattle.mend.proofs.Bytes.{lost_outside, lost-inside, mended-length, mended-index, mended-fixed, mended-other, still}
+use Rattle.mend.proofs.Bytes.{lost_outside, lost_inside, mended-length, mended_index, mended_fixed, mended_other, still}
 use Rattle.mend.proofs.Changes.{none_of_same}
 
 pub fixed_bytes_are_set : FixedBytesAreSet
 fixed_bytes_are_set image h =
     let at : (a : ℕ) → a < 0x89 → eqb a 0x32 ≡ false → eqb a 0x86 ≡ false → byte a (mended image) ≡ set_by fixed_bytes a (byte a image) =
-    λ a l e f. mended-fixed image a (omega (arith, l, h)) (eqb-false a 0x32 e) (eqb-false a 0x86 f) in (
+    λ a l e f. mended_fixed image a (omega (arith, l, h)) (eqb-false a 0x32 e) (eqb-false a 0x86 f) in (
       at 0x10 (omega arith) refl refl,
       at 0x11 (omega arith) refl refl,
       at 0x22 (omega arith) refl refl,
@@ -45,7 +45,7 @@ module _ (image : List ℕ) where
       second = omega arith
 
       is_lost : i + i + 1 < length image → lost (fixed image) i ≡ not (eqb (byte (i + i + 1) (mended image)) 0x03)
-      is_lost h = lost-inside image i second h (mended-fixed image (i + i + 1) h (λ z. omega arith) (λ z. omega arith))
+      is_lost h = lost_inside image i second h (mended_fixed image (i + i + 1) h (λ z. omega arith) (λ z. omega arith))
 
       go : (t : Bool) → ltb (i + i + 1) (length image) ≡ t → (u : Bool) → eqb (byte (i + i + 1) (mended image)) 0x03 ≡ u → Judged i
       go true e true f =
@@ -60,15 +60,15 @@ module _ (image : List ℕ) where
 
   module _ (a : ℕ) (index : (a ≡ 0x32) ⊎ (a ≡ 0x86)) where
     -- beyond the image there is no byte, before and after
-    at-index : byte a (mended image) ≡ cond (lost (fixed image) (byte a image)) 0 (byte a image)
-    at-index = go (ltb a (length image)) refl
+    at_index : byte a (mended image) ≡ cond (lost (fixed image) (byte a image)) 0 (byte a image)
+    at_index = go (ltb a (length image)) refl
       where
         nothing : (t : Bool) → ◌≡◌ {A = ℕ} 0 (cond t 0 0)
         nothing true = refl
         nothing false = refl
 
         go : (t : Bool) → ltb a (length image) ≡ t → byte a (mended image) ≡ cond (lost (fixed image) (byte a image)) 0 (byte a image)
-        go true e = mended-index image a (ltb-true a (length image) e) index
+        go true e = mended_index image a (ltb-true a (length image) e) index
         go false e =
             let out = ltb-false a (length image) e in
             let none : byte a image ≡ 0 = get_or-eq_default image 0 out in
@@ -76,10 +76,10 @@ module _ (image : List ℕ) where
             ∙ rw none (nothing (lost (fixed image) 0))
 
     kept : lost (fixed image) (byte a image) ≡ false → byte a (mended image) ≡ byte a image
-    kept e = at-index ∙ ap (λ (t : Bool). cond t 0 (byte a image)) e
+    kept e = at_index ∙ ap (λ (t : Bool). cond t 0 (byte a image)) e
 
     cleared : lost (fixed image) (byte a image) ≡ true → byte a (mended image) ≡ 0
-    cleared e = at-index ∙ ap (λ (t : Bool). cond t 0 (byte a image)) e
+    cleared e = at_index ∙ ap (λ (t : Bool). cond t 0 (byte a image)) e
 
 pub string_indexes_are_judged : StringIndexesAreJudged
 string_indexes_are_judged image a index = go (judged image (byte a image))
@@ -99,8 +99,8 @@ string_indexes_are_good image a index = go (judged image (byte a image))
 
 -- ---- every other byte, and once more
 
-pub no-other-byte-changes : NoOtherByteChanges
-no-other-byte-changes image = (mended-length image, mended-other image)
+pub no_other_byte_changes : NoOtherByteChanges
+no_other_byte_changes image = (mended-length image, mended_other image)
 
 pub twice_is_once : TwiceIsOnce
 unfolding changes

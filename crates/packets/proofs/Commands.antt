@@ -25,7 +25,7 @@ use Rattle.rules.specs.Step.{Packet, operations_for}
 use Rattle.rules.specs.Promise.{ToldOf}
 use Rattle.rules.proofs.Checks.{passed}
 use Rattle.rules.proofs.Demands.Mends.{met}
-use Rattle.rules.proofs.Promises.{packet-refused, packet-done}
+use Rattle.rules.proofs.Promises.{packet_refused, packet_done}
 use Rattle.outcomes.specs.Outcomes.{AnswersOf}
 use Rattle.passthrough.specs.declared.Judgement.{Judgement}
 use Rattle.passthrough.specs.Judgements.{Judged, judgement, decided, judged}
@@ -56,13 +56,13 @@ block_length : (p : List ℕ) → length p ≡ 31 → length (block_of p) ≡ 16
 block_length p h = rw length-drop (omega arith)
 
 -- every dock holds LUN 0, and none holds any but 0 and 1
-pub holds-first : (drives : Drives) → ltb 0 (drive_count drives) ≡ true
-holds-first One = refl
-holds-first Two = refl
+pub holds_first : (drives : Drives) → ltb 0 (drive_count drives) ≡ true
+holds_first One = refl
+holds_first Two = refl
 
-pub holds-no-other : (drives : Drives) (n : ℕ) → (n ≡ 0 → ⊥) → (n ≡ 1 → ⊥) → ltb n (drive_count drives) ≡ false
-holds-no-other One n a b = le-ltb n 1 (omega arith)
-holds-no-other Two n a b = le-ltb n 2 (omega arith)
+pub holds_no_other : (drives : Drives) (n : ℕ) → (n ≡ 0 → ⊥) → (n ≡ 1 → ⊥) → ltb n (drive_count drives) ≡ false
+holds_no_other One n a b = le-ltb n 1 (omega arith)
+holds_no_other Two n a b = le-ltb n 2 (omega arith)
 
 -- what a meaning says of the test and of the drive
 abbrev is_meant : Meaning → Bool
@@ -83,14 +83,14 @@ means_drive false n lun e = absurd (false≢true (ap is_meant e))
 
 module _ (drives : Drives) (b : Bridge) (signature : ℕ) (p room : List ℕ) (a : Awaits drives b) where
   -- the checks that are left of a packet that is awaited
-  left-checks : packet_answer b p (length (operations_for signature p)) (length room)
+  left_checks : packet_answer b p (length (operations_for signature p)) (length room)
       ≡ first (awaited_checks drives p (length (operations_for signature p)) (length room))
   unfolding packet_answer
-  left-checks = rw (a.holds, a.configured, a.awaits, a.runs)
+  left_checks = rw (a.holds, a.configured, a.awaits, a.runs)
 
   module _ {r : Bool} (v : r ≡ valid p) where
     pub not_valid : not r ≡ true → ToldOf b signature (Packet p) room 13 0 Stops room
-    not_valid h = packet-refused b signature p room 13 (left-checks ∙ rw (sym v ∙ not-true r h)) refl
+    not_valid h = packet_refused b signature p room 13 (left_checks ∙ rw (sym v ∙ not-true r h)) refl
 
     module _ (h : not r ≡ false) {c : CommandPacket} {meaning : Meaning} (is : c ≡ command_of p)
         (m : meaning ≡ meaning_of (meaningful drives c) c.lun) where
@@ -100,21 +100,21 @@ module _ (drives : Drives) (b : Bridge) (signature : ℕ) (p room : List ℕ) (a
       meant : meaning_of (meaningful drives (command_of p)) (command_of p).lun ≡ meaning
       meant = ap (λ (c : CommandPacket). meaning_of (meaningful drives c) c.lun) (sym is) ∙ sym m
 
-      pub not-meaningful : meaning ≡ None → ToldOf b signature (Packet p) room 14 0 Stops room
-      not-meaningful n = packet-refused b signature p room 14 (left-checks ∙ rw (good, means_nothing (meaningful drives (command_of p)) (command_of p).lun (meant ∙ n))) refl
+      pub not_meaningful : meaning ≡ None → ToldOf b signature (Packet p) room 14 0 Stops room
+      not_meaningful n = packet_refused b signature p room 14 (left_checks ∙ rw (good, means_nothing (meaningful drives (command_of p)) (command_of p).lun (meant ∙ n))) refl
 
       -- the operations of its block, if they are made
       abbrev made : List ℕ
       made = codes (operations_of (lun_of (command_of p)) (block_of p) (command_of p).length (direction_of (command_of p)))
 
-      by-judgement : meaningful drives (command_of p) ≡ true → (known short : Bool) → recognises signature p ≡ known
+      by_judgement : meaningful drives (command_of p) ≡ true → (known short : Bool) → recognises signature p ≡ known
           → ltb (length room) (length made) ≡ short
           → (let j : Judged = decided known short made room in
           AnswersOf b signature (Packet p) room (taken_as j.says (lun_of (command_of p)) (command_of p)) j.row)
-      by-judgement n true true k s = packet-refused b signature p room 15 (left-checks ∙ rw (good, n, k, s)) refl
-      by-judgement n true false k s = rw k at (packet-done b signature p room (left-checks ∙ rw (good, n, k, s)))
-      by-judgement n false short k s =
-          rw k at (packet-done b signature p room (left-checks ∙ rw (good, n, k, le-ltb (length room) 0 (omega arith))))
+      by_judgement n true true k s = packet_refused b signature p room 15 (left_checks ∙ rw (good, n, k, s)) refl
+      by_judgement n true false k s = rw k at (packet_done b signature p room (left_checks ∙ rw (good, n, k, s)))
+      by_judgement n false short k s =
+          rw k at (packet_done b signature p room (left_checks ∙ rw (good, n, k, le-ltb (length room) 0 (omega arith))))
 
       -- what the judgement of its block makes of a packet that is meaningful, for this drive
       pub taken_so : {lun : Lun} → meaning ≡ For lun
@@ -124,4 +124,4 @@ module _ (drives : Drives) (b : Bridge) (signature : ℕ) (p room : List ℕ) (a
       taken_so {lun} n part e j =
           let k = means_drive (meaningful drives (command_of p)) (command_of p).lun lun (meant ∙ n) in
           rw (ap (λ (x : Judged). x.says) j, ap (λ (x : Judged). x.row) j, e, is, part, k.1, block_length p (valid-length p good))
-          (by-judgement k.0 (recognises signature p) (ltb (length room) (length made)) refl refl)
+          (by_judgement k.0 (recognises signature p) (ltb (length room) (length made)) refl refl)

@@ -20,12 +20,12 @@ use Rattle.rules.specs.Demands.Operations.{tally}
 use Rattle.passthrough.specs.Rows.{rising}
 
 -- the set bits of a number, bit by bit
-ones-from : (k n : ℕ) → ones (n / 2 ^ k) ≡ bit_of k n + ones (n / 2 ^ suc k)
-ones-from k n = ones_step (n / 2 ^ k) ∙ rw (div-div-eq-div-mul, ← pow-suc)
+ones_from : (k n : ℕ) → ones (n / 2 ^ k) ≡ bit_of k n + ones (n / 2 ^ suc k)
+ones_from k n = ones_step (n / 2 ^ k) ∙ rw (div-div-eq-div-mul, ← pow-suc)
 
-ones-zero : ones 0 ≡ 0
+ones_zero : ones 0 ≡ 0
 unfolding ones
-ones-zero = refl
+ones_zero = refl
 
 ones-tally : (block : List ℕ) → byte 3 block < 256 → ones (byte 3 block) ≡ tally block (rising 8)
 ones-tally block h =
@@ -33,7 +33,7 @@ ones-tally block h =
     let whole : n ≡ n / 2 ^ 0 = omega arith in
     let none : n / 2 ^ 8 ≡ 0 = omega arith in
     ap ones whole
-    ∙ rw (ones-from 0 n, ones-from 1 n, ones-from 2 n, ones-from 3 n, ones-from 4 n, ones-from 5 n, ones-from 6 n, ones-from 7 n, none, ones-zero)
+    ∙ rw (ones_from 0 n, ones_from 1 n, ones_from 2 n, ones_from 3 n, ones_from 4 n, ones_from 5 n, ones_from 6 n, ones_from 7 n, none, ones_zero)
 
 one-not : (n : ℕ) → n < 2 → one (not (eqb n 1)) ≡ 1 - n
 one-not n h = go (eqb n 1) refl
@@ -43,23 +43,23 @@ one-not n h = go (eqb n 1) refl
     go false e = let other : n ≡ 1 → ⊥ = eqb-false n 1 e in omega arith
 
 -- the seven registers that a write block may write, and register 6
-seven-eight : (a b c d e f g h : ℕ) → a + (b + (c + (d + (e + (f + (h + 0)))))) + g ≡ a + (b + (c + (d + (e + (f + (g + (h + 0)))))))
-seven-eight a b c d e f g h = omega arith
+seven_eight : (a b c d e f g h : ℕ) → a + (b + (c + (d + (e + (f + (h + 0)))))) + g ≡ a + (b + (c + (d + (e + (f + (g + (h + 0)))))))
+seven_eight a b c d e f g h = omega arith
 
 -- the sum of a write block's parts: poll p, seven registers t, transfer m, the select and read 7
 written : (p b t g n m : ℕ) → p ≡ 1 - b → b < 2 → t + g ≡ n → p + 2 + t + m ≡ 2 - b + n + 1 - g + m
 written p b t g n m hp hb hn = omega arith
 
 module _ (lun : Lun) (block : List ℕ) (l : ℕ) (d : Direction) (h : byte 3 block < 256) where
-  pub count-read : bit 0 (action block) ≡ true → length (operations_of lun block l d) ≡ 2 - bit_of 2 (action block) + ones (byte 3 block)
-  count-read e = omega (arith, ((counted lun block l d).0 (eqb-true _ 1 e)).0, one-not (bit_of 2 (action block)) (omega arith), ones-tally block h)
+  pub count_read : bit 0 (action block) ≡ true → length (operations_of lun block l d) ≡ 2 - bit_of 2 (action block) + ones (byte 3 block)
+  count_read e = omega (arith, ((counted lun block l d).0 (eqb-true _ 1 e)).0, one-not (bit_of 2 (action block)) (omega arith), ones-tally block h)
 
-  pub count-write : bit 0 (action block) ≡ false
+  pub count_write : bit 0 (action block) ≡ false
       → length (operations_of lun block l d)
       ≡ 2 - bit_of 2 (action block) + ones (byte 3 block) + 1 - bit_of 6 (byte 3 block) + bool_byte (ltb 0 l)
-  count-write e =
+  count_write e =
       let other : bit_of 0 (action block) ≡ 1 → ⊥ = eqb-false _ 1 e in
-      let registers = seven-eight _ _ _ _ _ _ _ _ ∙ sym (ones-tally block h) in
+      let registers = seven_eight _ _ _ _ _ _ _ _ ∙ sym (ones-tally block h) in
       rw (bool_byte_lem (ltb 0 l))
       (((counted lun block l d).1 (omega arith)).0 ∙ written _ _ _ _ _ _ (one-not (bit_of 2 (action block)) (omega arith)) (omega arith) registers)
 

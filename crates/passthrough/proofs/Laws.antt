@@ -22,8 +22,8 @@ module _ (lun : Lun) (signature : ℕ) (block : List ℕ) (size l : ℕ) (d : Di
   abbrev made : List Operation
   made = operations_of lun block l d
 
-  pub not-sixteen : (length block ≡ 16 → ⊥) → judgement Unrecognised row ≡ right
-  not-sixteen n = rw (ne_eqb (length block) 16 n)
+  pub not_sixteen : (length block ≡ 16 → ⊥) → judgement Unrecognised row ≡ right
+  not_sixteen n = rw (ne_eqb (length block) 16 n)
 
   module _ (s : length block ≡ 16) {r : Bool} (by : r ≡ recognised signature block size l d) where
     pub not_known : not r ≡ true → judgement Unrecognised row ≡ right

@@ -69,5 +69,5 @@ nothing_left (suc n) last room w s h =
     go false Torn f k ih = λ t l. absurd (true≢false t)
     go false Part f k ih = λ t l. k
 
-pub nothing-is-left : NothingIsLeft
-nothing-is-left last room w s = nothing_left (length s) last room w s (omega arith)
+pub nothing_is_left : NothingIsLeft
+nothing_is_left last room w s = nothing_left (length s) last room w s (omega arith)

@@ -17,13 +17,13 @@ use Rattle.records.specs.Lines.{line_most}
 use Rattle.records.specs.Runs.{Run, before, event_in, rests, turn, turn_in, run}
 use Rattle.records.specs.Streams.{onward, whole}
 use Rattle.records.proofs.Heads.{whole_facts, empty_part, length_stays, event_stays, Stays, head_stays}
-use Rattle.records.proofs.Running.{before-before, before-none}
+use Rattle.records.proofs.Running.{before-before, before_none}
 use Rattle.records.proofs.AsTheRules.{behind, behind_shorter, first, next, rest}
 
 -- ---- as many records as a stream has bytes are enough
 
-none-enough : (last : Bool) (room : ℕ) (w : World) (s : List ℕ) (r : Run) → length s ≤ 0 → rests w ≡ turn_in room last w s r
-none-enough last room w s r h = rw (empty_part last s h) (go (ltb room line_most))
+none_enough : (last : Bool) (room : ℕ) (w : World) (s : List ℕ) (r : Run) → length s ≤ 0 → rests w ≡ turn_in room last w s r
+none_enough last room w s r h = rw (empty_part last s h) (go (ltb room line_most))
   where
     go : (full : Bool) → rests w ≡ cond full (rests w) (rests w)
     go true = refl
@@ -31,8 +31,8 @@ none-enough last room w s r h = rw (empty_part last s h) (go (ltb room line_most
 
 enough : (n m : ℕ) (last : Bool) (room : ℕ) (w : World) (s : List ℕ) → length s ≤ n → length s ≤ m → run n last room w s ≡ run m last room w s
 enough zero zero last room w s h k = refl
-enough zero (suc m) last room w s h k = none-enough last room w s _ h
-enough (suc n) zero last room w s h k = sym (none-enough last room w s _ k)
+enough zero (suc m) last room w s h k = none_enough last room w s _ h
+enough (suc n) zero last room w s h k = sym (none_enough last room w s _ k)
 enough (suc n) (suc m) last room w s h k =
     ap (turn_in room last w s) (enough n m last (room - length (first w s)) (next w s) (behind s) (behind_shorter s h) (behind_shorter s k))
 
@@ -58,22 +58,22 @@ pub record Front (room : ℕ) (w : World) (s later : List ℕ) (r : Run) : Type 
       → whole room w (s ++ later) ≡ onward r (whole (room - length r.lines) r.world (drop r.used s ++ later))
 
 module _ (room : ℕ) (w : World) (s later : List ℕ) where
-  pub rests-front : Front room w s later (rests w)
-  rests-front = record {
+  pub rests_front : Front room w s later (rests w)
+  rests_front = record {
     inside = omega arith;
-    same = λ l. let none : room - 0 ≡ room = omega arith in rw none (before-none _);
+    same = λ l. let none : room - 0 ≡ room = omega arith in rw none (before_none _);
   }
 
   -- where more has come it is a front still
-  pub more-came : (came : List ℕ) {r : Run} → Front room w s (came ++ later) r → Front room w (s ++ came) later r
-  more-came came {r} front = record {
+  pub more_came : (came : List ℕ) {r : Run} → Front room w s (came ++ later) r → Front room w (s ++ came) later r
+  more_came came {r} front = record {
     inside = rw length-append (omega (arith, front.inside));
     same = rw (drop-append-le r.used s came front.inside, append_assoc s came later, append_assoc (drop r.used s) came later) front.same;
   }
 
   -- and a front of what it left goes on behind it
-  pub front-onward : (r q : Run) → Front room w s later r → Front (room - length r.lines) r.world (drop r.used s) later q → Front room w s later (onward r q)
-  front-onward r q front onto = go r.torn refl
+  pub front_onward : (r q : Run) → Front room w s later r → Front (room - length r.lines) r.world (drop r.used s) later q → Front room w s later (onward r q)
+  front_onward r q front onto = go r.torn refl
     where
       go : (b : Bool) → r.torn ≡ b → Front room w s later (cond b r (before r.events r.lines r.used q))
       go true e = front
@@ -92,8 +92,8 @@ module _ (room : ℕ) (w : World) (s later : List ℕ) where
 abbrev one : World → List ℕ → Run
 one w s = record { events = event_in s ∷ []; lines = first w s; used = 4 + length_of s; torn = false; world = next w s }
 
-one-front : (room : ℕ) (w : World) (s later : List ℕ) → 4 + length_of s ≤ length s → head_of true (s ++ later) ≡ Whole → Front room w s later (one w s)
-one-front room w s later there h = record {
+one_front : (room : ℕ) (w : World) (s later : List ℕ) → 4 + length_of s ≤ length s → head_of true (s ++ later) ≡ Whole → Front room w s later (one w s)
+one_front room w s later there h = record {
   inside = there;
   same = λ l.
       let event = event_stays s later there in
@@ -103,20 +103,20 @@ one-front room w s later there h = record {
 }
 
 -- a run, of however many records and with however little room
-pub run-front : (n : ℕ) (last : Bool) (few room : ℕ) (w : World) (s later : List ℕ) → (last ≡ true → later ≡ []) → Front room w s later (run n last few w s)
-run-front zero last few room w s later none = rests-front room w s later
-run-front (suc n) last few room w s later none =
+pub run_front : (n : ℕ) (last : Bool) (few room : ℕ) (w : World) (s later : List ℕ) → (last ≡ true → later ≡ []) → Front room w s later (run n last few w s)
+run_front zero last few room w s later none = rests_front room w s later
+run_front (suc n) last few room w s later none =
     go (ltb few line_most) (head_of last s) refl (head_stays last s later none)
-    (run-front n last (few - length (first w s)) (room - length (first w s)) (next w s) (behind s) later none)
+    (run_front n last (few - length (first w s)) (room - length (first w s)) (next w s) (behind s) later none)
   where
     go : (full : Bool) (h : Head) → head_of last s ≡ h → Stays h (head_of true (s ++ later))
         → Front (room - length (first w s)) (next w s) (behind s) later (rest w s n last few)
         → Front room w s later (cond full (rests w) (turn h w s (rest w s n last few)))
-    go true h e k onto = rests-front room w s later
+    go true h e k onto = rests_front room w s later
     go false Whole e k onto =
-        front-onward room w s later (one w s) (rest w s n last few) (one-front room w s later (whole_facts last s refl e).0 k) onto
+        front_onward room w s later (one w s) (rest w s n last few) (one_front room w s later (whole_facts last s refl e).0 k) onto
     go false Torn e k onto = record {
       inside = omega arith;
       same = λ l. whole_turns room w (s ++ later) ∙ rw (le-ltb room line_most (omega (arith, l)), k);
     }
-    go false Part e k onto = rests-front room w s later
+    go false Part e k onto = rests_front room w s later

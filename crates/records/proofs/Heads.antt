@@ -25,18 +25,18 @@ module _ (last : Bool) (s : List ℕ) where
     read : torn (kind_of s) (length_of s) ≡ t
     read = sym (rw (hk, hn) at ht)
 
-    pub torn-head : t ≡ true → Torn ≡ head_of last s
+    pub torn_head : t ≡ true → Torn ≡ head_of last s
     unfolding head_of
-    torn-head p = rw (le-ltb (length s) 4 l, read ∙ p)
+    torn_head p = rw (le-ltb (length s) 4 l, read ∙ p)
 
     module _ (p : t ≡ false) where
-      pub cut-head : {h : Head} → h ≡ unfinished last (length s) → length s < 4 + n → h ≡ head_of last s
+      pub cut_head : {h : Head} → h ≡ unfinished last (length s) → length s < 4 + n → h ≡ head_of last s
       unfolding head_of
-      cut-head e q = rw (e, le-ltb (length s) 4 l, read ∙ p, lt-ltb (length s) (4 + length_of s) (rw hn at q))
+      cut_head e q = rw (e, le-ltb (length s) 4 l, read ∙ p, lt-ltb (length s) (4 + length_of s) (rw hn at q))
 
-      pub whole-head : 4 + n ≤ length s → Whole ≡ head_of last s
+      pub whole_head : 4 + n ≤ length s → Whole ≡ head_of last s
       unfolding head_of
-      whole-head q = rw (le-ltb (length s) 4 l, read ∙ p, le-ltb (length s) (4 + length_of s) (rw hn at q))
+      whole_head q = rw (le-ltb (length s) 4 l, read ∙ p, le-ltb (length s) (4 + length_of s) (rw hn at q))
 
   -- a whole record is all there, and not torn
   pub whole_facts : {h : Head} → h ≡ head_of last s → h ≡ Whole → (4 + length_of s ≤ length s) × (torn (kind_of s) (length_of s) ≡ false)

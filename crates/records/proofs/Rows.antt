@@ -10,7 +10,7 @@ use lib.Dec.{ltb}
 use lib.ListN.{length, take, get_or, set, length-append}
 use lib.Seq.{take-suc, length-take-le}
 use Rattle.lent.specs.Rows.{Put}
-use Rattle.lent.proofs.Rows.{put-length, put-put}
+use Rattle.lent.proofs.Rows.{put_length, put_put}
 use Rattle.records.specs.Lines.{digit, number, hex_byte, hex_word, each, line_most}
 
 -- one value, and what is put behind it
@@ -26,13 +26,13 @@ module _ (f : ℕ → List ℕ) where
   each_more : (xs : List ℕ) (i : ℕ) → i < length xs → each f (take (i + 1) xs) ≡ each f (take i xs) ++ f (get_or xs i 0)
   each_more xs i h = rw (add-one, take-suc xs i 0, each_append (take i xs) (get_or xs i 0 ∷ []), append-nil)
 
-  pub put-more : (xs : List ℕ) (i : ℕ) → i < length xs → {a b c : List ℕ} {at next end : ℕ}
+  pub put_more : (xs : List ℕ) (i : ℕ) → i < length xs → {a b c : List ℕ} {at next end : ℕ}
       → Put a at (each f (take i xs)) b next → Put b next (f (get_or xs i 0)) c end → Put a at (each f (take (i + 1) xs)) c end
-  put-more xs i h p q = rw (each_more xs i h) (put-put (each f (take i xs)) (f (get_or xs i 0)) p q)
+  put_more xs i h p q = rw (each_more xs i h) (put_put (each f (take i xs)) (f (get_or xs i 0)) p q)
 
-  each-length : (m : ℕ) → ((x : ℕ) → length (f x) ≡ m) → (xs : List ℕ) → length (each f xs) ≡ length xs * m
-  each-length m h [] = rw zero-mul
-  each-length m h (x ∷ xs) = rw (length-append (f x) (each f xs), h, each-length m h xs, suc-mul) (omega arith)
+  each_length : (m : ℕ) → ((x : ℕ) → length (f x) ≡ m) → (xs : List ℕ) → length (each f xs) ≡ length xs * m
+  each_length m h [] = rw zero-mul
+  each_length m h (x ∷ xs) = rw (length-append (f x) (each f xs), h, each_length m h xs, suc-mul) (omega arith)
 
 pub hex_byte-length : (x : ℕ) → length (hex_byte x) ≡ 3
 hex_byte-length x = refl
@@ -55,18 +55,18 @@ module _ (f : ℕ → List ℕ) (m : ℕ) (size : (x : ℕ) → length (f x) ≡
   shown = each f (take count out)
 
   shown-length : length shown ≡ count * m
-  shown-length = each-length f m size (take count out) ∙ ap (λ k. k * m) (length-take-le count out there)
+  shown-length = each_length f m size (take count out) ∙ ap (λ k. k * m) (length-take-le count out there)
 
-  pub shown-fits : i + count * m ≤ length b
-  shown-fits = omega (arith, number_put.moved, number-length n, put-length number_put)
+  pub shown_fits : i + count * m ≤ length b
+  shown_fits = omega (arith, number_put.moved, number-length n, put_length number_put)
 
   module _ {c : List ℕ} {j : ℕ} (shown-put : Put b i shown c j) where
     pub end_fits : j + 1 ≤ length c
-    end_fits = omega (arith, number_put.moved, number-length n, put-length number_put, shown-put.moved, put-length shown-put, shown-length)
+    end_fits = omega (arith, number_put.moved, number-length n, put_length number_put, shown-put.moved, put_length shown-put, shown-length)
 
     -- the line stands there, and it is inside
-    pub line-put : {d : List ℕ} {k : ℕ} → Put c j (0x0A ∷ []) d k → Put a at (number n ++ shown ++ 0x0A ∷ []) d k × (k ≤ length a)
-    line-put end-put = (
-      put-put (number n ++ shown) (0x0A ∷ []) (put-put (number n) shown number_put shown-put) end-put,
-      omega (arith, end-put.moved, end_fits, put-length shown-put, put-length number_put),
+    pub line_put : {d : List ℕ} {k : ℕ} → Put c j (0x0A ∷ []) d k → Put a at (number n ++ shown ++ 0x0A ∷ []) d k × (k ≤ length a)
+    line_put end-put = (
+      put_put (number n ++ shown) (0x0A ∷ []) (put_put (number n) shown number_put shown-put) end-put,
+      omega (arith, end-put.moved, end_fits, put_length shown-put, put_length number_put),
     )

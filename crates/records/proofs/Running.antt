@@ -13,7 +13,7 @@ use Rattle.rules.specs.declared.Bridge.{Bridge}
 use Rattle.rules.specs.Held.{World, world}
 use Rattle.rules.specs.Step.{Event, step}
 use Rattle.lent.specs.Rows.{Put}
-use Rattle.lent.proofs.Rows.{put-none, put-length, put-put, put-laid}
+use Rattle.lent.proofs.Rows.{put_none, put_length, put_put, put_laid}
 use Rattle.records.specs.declared.Head.{Head}
 use Rattle.records.specs.declared.Head.TheVariants.{Whole, Torn, Part}
 use Rattle.records.specs.declared.Turned.{Turned}
@@ -28,14 +28,14 @@ pub before-before : (es es' : List Event) (l l' : List ℕ) (u u' : ℕ) (r : Ru
     → before es l u (before es' l' u' r) ≡ before (es ++ es') (l ++ l') (u + u') r
 before-before es es' l l' u u' r = rw (append_assoc es es' r.events, append_assoc l l' r.lines, add_assoc u u' r.used)
 
-pub before-none : (r : Run) → r ≡ before [] [] 0 r
-before-none r = rw (zero-add r.used)
+pub before_none : (r : Run) → r ≡ before [] [] 0 r
+before_none r = rw (zero-add r.used)
 
 -- the rest matters where the head is whole
-rest-same : (h : Head) (w : World) {x y : Run} → (h ≡ Whole → x ≡ y) → remains h w x ≡ remains h w y
-rest-same Whole w e = e refl
-rest-same Torn w e = refl
-rest-same Part w e = refl
+rest_same : (h : Head) (w : World) {x y : Run} → (h ≡ Whole → x ≡ y) → remains h w x ≡ remains h w y
+rest_same Whole w e = e refl
+rest_same Torn w e = refl
+rest_same Part w e = refl
 
 module _ (last : Bool) (s room : List ℕ) (all : Run) where
   pub record So (w : World) (output : List ℕ) (head : Head) (used written records : ℕ) : Type 0 where
@@ -50,10 +50,10 @@ module _ (last : Bool) (s room : List ℕ) (all : Run) where
   starts w e = record {
     events = [];
     lines = [];
-    stored = put-none room 0;
+    stored = put_none room 0;
     fits = omega arith;
     inside = omega arith;
-    same = let none : length room - 0 ≡ length room = omega arith in rw none (e ∙ before-none _);
+    same = let none : length room - 0 ≡ length room = omega arith in rw none (e ∙ before_none _);
   }
 
   module _ {w : World} {output : List ℕ} {used written records : ℕ} (so : So w output Whole used written (suc records))
@@ -71,27 +71,27 @@ module _ (last : Bool) (s room : List ℕ) (all : Run) where
     abbrev after : ℕ → Run
     after length-output = run records last (length-output - written - length (line event (step w event))) (step w event).next (drop (4 + length_of rest) rest)
 
-    onward-same : t.head ≡ Whole → after (length output) ≡ run records last (length room - t.next) next (drop (used + t.used) s)
-    onward-same w =
+    onward_same : t.head ≡ Whole → after (length output) ≡ run records last (length room - t.next) next (drop (used + t.used) s)
+    onward_same w =
         let facts = turns.onward w in
-        let left : length output - written - length turns.printed ≡ length room - t.next = omega (arith, put-length so.stored, turns.stored.moved) in
+        let left : length output - written - length turns.printed ≡ length room - t.next = omega (arith, put_length so.stored, turns.stored.moved) in
         rw (sym facts.0, sym facts.1, sym facts.2, left, drop-drop t.used used s)
 
-    first-same : run (suc records) last (length room - written) w rest
+    first_same : run (suc records) last (length room - written) w rest
         ≡ before turns.events turns.printed t.used (remains t.head next (run records last (length room - t.next) next (drop (used + t.used) s)))
-    first-same =
-        rw (put-length so.stored) at
-        (turns.same (after (length output)) ∙ ap (before turns.events turns.printed t.used) (rest-same t.head next onward-same))
+    first_same =
+        rw (put_length so.stored) at
+        (turns.same (after (length output)) ∙ ap (before turns.events turns.printed t.used) (rest_same t.head next onward_same))
 
     pub goes : So next output' t.head (used + t.used) t.next records
     goes = record {
       events = so.events ++ turns.events;
       lines = so.lines ++ turns.printed;
-      stored = put-put so.lines turns.printed so.stored turns.stored;
-      fits = omega (arith, turns.fits, put-length so.stored);
+      stored = put_put so.lines turns.printed so.stored turns.stored;
+      fits = omega (arith, turns.fits, put_length so.stored);
       inside = omega (arith, so.inside, turns.inside, length-drop used s);
       same =
-          so.same ∙ ap (before so.events so.lines used) first-same
+          so.same ∙ ap (before so.events so.lines used) first_same
           ∙ before-before so.events turns.events so.lines turns.printed used t.used _;
     }
 
@@ -124,9 +124,9 @@ module _ (last : Bool) (s room : List ℕ) (all : Run) {b : Bridge} {bytes memor
       let this : head ≡ Whole = whole_is head (sym is ∙ both.0) in
       goes last s room all (rw (this, more) at so) (rw (part_left s used) at turns)
 
-  pub used-inside : {t : Turned} {bytes' memory' output' : List ℕ} → Turns last (world b bytes memory) (take (length s - used) (drop used s)) output written t bytes' memory' output'
+  pub used_inside : {t : Turned} {bytes' memory' output' : List ℕ} → Turns last (world b bytes memory) (take (length s - used) (drop used s)) output written t bytes' memory' output'
       → used + t.used ≤ length s
-  used-inside turns = omega (arith, so.inside, (rw (part_left s used) at turns).inside, length-drop used s)
+  used_inside turns = omega (arith, so.inside, (rw (part_left s used) at turns).inside, length-drop used s)
 
   pub ends : (whole && ltb 0 records) ≡ false → {torn : Bool} → torn ≡ is_torn head
       → run_left (record { bridge = b; used = used; written = written; torn = torn }) bytes memory output ≡ left_by_run all room
@@ -134,5 +134,5 @@ module _ (last : Bool) (s room : List ℕ) (all : Run) {b : Bridge} {bytes memor
       let done : (is_whole head && ltb 0 records) ≡ false = rw is at e in
       let all-is : all ≡ before so.events so.lines used (ended (is_torn head) (world b bytes memory)) =
       so.same ∙ ap (before so.events so.lines used) (at_end last head (world b bytes memory) records (length room - written) (drop used s) done) in
-      let laid-there = put-laid so.stored (omega (arith, so.stored.moved, so.fits)) in
+      let laid-there = put_laid so.stored (omega (arith, so.stored.moved, so.fits)) in
       rw (all-is, append-nil so.lines, add-zero used, t, laid-there, so.stored.moved, zero-add)

@@ -17,18 +17,18 @@ use Rattle.records.specs.Runs.{Run, before, rests, turn, run}
 use Rattle.records.specs.Streams.{Round, stream, onward, rounds, Ended, whole, RoundsAreAFront, StreamsAreWhole}
 use Rattle.records.proofs.Heads.{part_empty}
 use Rattle.records.proofs.AsTheRules.{behind, first, next}
-use Rattle.records.proofs.Fronts.{whole_turns, Front, rests-front, more-came, front-onward, run-front}
+use Rattle.records.proofs.Fronts.{whole_turns, Front, rests_front, more_came, front_onward, run_front}
 
-rounds-front : (w : World) (ts : List Round) (later : List ℕ) → Ended ts later → (room : ℕ) → Front room w (stream ts) later (rounds w ts)
-rounds-front w [] later ended room = rests-front room w [] later
-rounds-front w (t ∷ ts) later ended room =
+rounds_front : (w : World) (ts : List Round) (later : List ℕ) → Ended ts later → (room : ℕ) → Front room w (stream ts) later (rounds w ts)
+rounds_front w [] later ended room = rests_front room w [] later
+rounds_front w (t ∷ ts) later ended room =
     let r = rounds w ts in
     let s = drop r.used (stream (t ∷ ts)) in
-    front-onward room w (stream (t ∷ ts)) later r _ (more-came room w (stream ts) later t.came (rounds-front w ts (t.came ++ later) ended.1 room))
-    (run-front (length s) t.last t.room (room - length r.lines) r.world s later ended.0)
+    front_onward room w (stream (t ∷ ts)) later r _ (more_came room w (stream ts) later t.came (rounds_front w ts (t.came ++ later) ended.1 room))
+    (run_front (length s) t.last t.room (room - length r.lines) r.world s later ended.0)
 
 pub rounds_are_a_front : RoundsAreAFront
-rounds_are_a_front w ts later ended room = (rounds-front w ts later ended room).same
+rounds_are_a_front w ts later ended room = (rounds_front w ts later ended room).same
 
 -- ---- the end of a stream
 
@@ -67,8 +67,8 @@ module _ (w : World) (t : Round) (ts : List Round) where
           let none : took.used ≡ 0 = omega (arith, u) in
           took_nothing t.room was.world left l (rw last at f) (rw last at none)
 
-onward-none : (r : Run) → onward r (rests r.world) ≡ r
-onward-none r = go r.torn refl
+onward_none : (r : Run) → onward r (rests r.world) ≡ r
+onward_none r = go r.torn refl
   where
     go : (b : Bool) → r.torn ≡ b → cond b r (before r.events r.lines r.used (rests r.world)) ≡ r
     go true e = refl
@@ -88,4 +88,4 @@ streams_are_whole w t ts ended room done l =
         → onward r (whole (room - length r.lines) r.world (drop r.used s)) ≡ r
     go true e done = rw e
     go false e (inl f) = absurd (true≢false (sym f ∙ e))
-    go false e (inr (last, m, u)) = rw (nothing_left w t ts last m u e) (onward-none r)
+    go false e (inr (last, m, u)) = rw (nothing_left w t ts last m u e) (onward_none r)

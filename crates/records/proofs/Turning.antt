@@ -10,7 +10,7 @@ use borrow.Author.Tests.{lt-ltb, le-ltb}
 use Rattle.rules.specs.declared.Bridge.{Bridge}
 use Rattle.rules.specs.Held.{world}
 use Rattle.lent.specs.Rows.{Put}
-use Rattle.lent.proofs.Rows.{put-none}
+use Rattle.lent.proofs.Rows.{put_none}
 use Rattle.records.specs.declared.Head.{Head}
 use Rattle.records.specs.declared.Head.TheVariants.{Whole, Torn, Part}
 use Rattle.records.specs.declared.Printed.{Printed}
@@ -29,7 +29,7 @@ module _ (last : Bool) (b : Bridge) (bytes m s room : List ℕ) (at : ℕ) (insi
   no_room l = record {
     events = [];
     printed = [];
-    stored = put-none room at;
+    stored = put_none room at;
     fits = inside;
     inside = omega arith;
     same = λ r. rw (lt-ltb (length room - at) line_most l);
@@ -37,19 +37,19 @@ module _ (last : Bool) (b : Bridge) (bytes m s room : List ℕ) (at : ℕ) (insi
   }
 
   module _ (l : line_most ≤ length room - at) {h : Head} (is : h ≡ head_of last s) where
-    pub part-taken : h ≡ Part → Turns last (world b bytes m) s room at (turned h b 0 at) bytes m room
-    part-taken k = record {
+    pub part_taken : h ≡ Part → Turns last (world b bytes m) s room at (turned h b 0 at) bytes m room
+    part_taken k = record {
       events = [];
       printed = [];
-      stored = put-none room at;
+      stored = put_none room at;
       fits = inside;
       inside = omega arith;
       same = λ r. rw (le-ltb (length room - at) line_most l, ← is, k);
       onward = no (ap is_whole k);
     }
 
-    pub torn-taken : h ≡ Torn → {now : List ℕ} {next : ℕ} → Put room at torn_line now next → Turns last (world b bytes m) s room at (turned h b 0 next) bytes m now
-    torn-taken k p = record {
+    pub torn_taken : h ≡ Torn → {now : List ℕ} {next : ℕ} → Put room at torn_line now next → Turns last (world b bytes m) s room at (turned h b 0 next) bytes m now
+    torn_taken k p = record {
       events = [];
       printed = torn_line;
       stored = p;
@@ -67,28 +67,28 @@ module _ (last : Bool) (b : Bridge) (bytes m s room : List ℕ) (at : ℕ) (insi
       there : 4 + length_of s ≤ length s
       there = (whole_facts last s is k).0
 
-      pub ends-inside : 4 + n ≤ length s
-      ends-inside = omega (arith, there)
+      pub ends_inside : 4 + n ≤ length s
+      ends_inside = omega (arith, there)
 
-      pub not-torn : torn kind (length payload) ≡ false
-      not-torn =
+      pub not_torn : torn kind (length payload) ≡ false
+      not_torn =
           let l : length payload ≡ length_of s = length-take-le (4 + n - 4) (drop 4 s) (rw length-drop (omega (arith, there))) ∙ omega arith in
           rw (l, hk) (whole_facts last s is k).1
 
-      event-is : event_of kind payload ≡ event_in s
-      event-is = let cut : 4 + n - 4 ≡ length_of s = omega arith in rw (cut, hk)
+      event_is : event_of kind payload ≡ event_in s
+      event_is = let cut : 4 + n - 4 ≡ length_of s = omega arith in rw (cut, hk)
 
-      pub whole-taken : {p : Printed} {bytes' memory now : List ℕ} → Prints (world b bytes m) (event_of kind payload) room at p bytes' memory now
+      pub whole_taken : {p : Printed} {bytes' memory now : List ℕ} → Prints (world b bytes m) (event_of kind payload) room at p bytes' memory now
           → Turns last (world b bytes m) s room at (turned h p.bridge (4 + n) p.next) bytes' memory now
-      whole-taken {p} {bytes'} {memory} {now} said =
-          let prints : Prints (world b bytes m) (event_in s) room at p bytes' memory now = rw event-is at said in
+      whole_taken {p} {bytes'} {memory} {now} said =
+          let prints : Prints (world b bytes m) (event_in s) room at p bytes' memory now = rw event_is at said in
           let size : 4 + n ≡ 4 + length_of s = omega arith in
           record {
             events = event_in s ∷ [];
             printed = _;
             stored = prints.line;
             fits = prints.fits;
-            inside = ends-inside;
+            inside = ends_inside;
             same = λ r. rw (le-ltb (length room - at) line_most l, ← is, k, size);
             onward = λ w. (refl, size, prints.next);
           }

@@ -9,10 +9,10 @@ use Rattle.rules.specs.declared.Direction.{Direction}
 use Rattle.rules.specs.Reports.{direction_number, mismatch}
 
 -- the direction that the host's stands for where L = 0 makes no difference
-pub mismatch-by : (l : ℕ) (host : Direction) (direction amount : ℕ)
+pub mismatch_by : (l : ℕ) (host : Direction) (direction amount : ℕ)
     → mismatch l host direction amount ≡ ((ltb 0 amount && not (eqb direction (direction_number host))) || ltb l amount)
 unfolding mismatch
-mismatch-by l host direction amount = go (eqb l 0) refl
+mismatch_by l host direction amount = go (eqb l 0) refl
   where
     both : (t x y : Bool) → ((t && x) || t) ≡ ((t && y) || t)
     both true true true = refl

@@ -26,10 +26,10 @@ not-not true = refl
 not-not false = refl
 
 module _ (m start n : ℕ) where
-  pub address-by : (writes : Bool) (place : ℕ) (t : Bool) → in_memory place ≡ t → {size : ℕ} → size ≡ cond t m 16
+  pub address_by : (writes : Bool) (place : ℕ) (t : Bool) → in_memory place ≡ t → {size : ℕ} → size ≡ cond t m 16
       → address writes m place start n ≡ ((ltb start size && leb (start + n) size) && not (writes && not t && ltb start 2))
   unfolding address
-  address-by writes place t e s = rw (e, s) (go writes t)
+  address_by writes place t e s = rw (e, s) (go writes t)
     where
       last : (x y z : Bool) → (not x && y && z) ≡ ((y && z) && not x)
       last true true true = refl

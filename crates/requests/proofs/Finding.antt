@@ -38,8 +38,8 @@ module _ (seen : Seen) (memory : List ℕ) (s : Setup) (host : ℕ) where
   abbrev verdict : Judgement
   verdict = found_by seen memory s (first (described_checks seen memory s host))
 
-  pub none-fitted : size_of memory ≡ 0 → Refused 7 ≡ verdict
-  none-fitted h = rw (eq-eqb (size_of memory) 0 h)
+  pub none_fitted : size_of memory ≡ 0 → Refused 7 ≡ verdict
+  none_fitted h = rw (eq-eqb (size_of memory) 0 h)
 
   module _ (some : size_of memory ≡ 0 → ⊥) {found : Found} (by : found ≡ looked seen.bus_powered seen.first_string (fitted memory) s.value) where
     -- what the search says decides, and where it says nothing against it the data do

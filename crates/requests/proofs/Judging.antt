@@ -53,10 +53,10 @@ lookup_pair_lem (r ∷ rs) s h k =
     rw (same_pair s.kind s.code r.kind r.code h (ltb-true _ _ b.0), lookup_pair_lem rs s h b.1)
 
 -- the request of a setup whose type and code make a known pair
-pub request-at : (s : Setup) (word pair : ℕ) → s.kind < 256 → word ≡ s.kind + 256 * s.code → word ≡ pair
+pub request_at : (s : Setup) (word pair : ℕ) → s.kind < 256 → word ≡ s.kind + 256 * s.code → word ≡ pair
     → request_of s ≡ lookup_pair table pair s
 unfolding request_of
-request-at s word pair h e k = lookup_pair_lem table s h refl ∙ ap (λ p. lookup_pair table p s) (sym e ∙ k)
+request_at s word pair h e k = lookup_pair_lem table s h refl ∙ ap (λ p. lookup_pair table p s) (sym e ∙ k)
 
 -- the pair is that of no row, beside what is known
 abbrev Apart : Type 0 → List Row → ℕ → Type 0
@@ -70,8 +70,8 @@ apart known (r ∷ rs) pair s h =
     (k.0.0, rw (ne_eqb _ _ k.0.1) k.1)
 
 -- a setup whose pair is that of no row is Unknown
-pub unknown-at : (s : Setup) (word : ℕ) → s.kind < 256 → word ≡ s.kind + 256 * s.code → Apart (Unit {0}) table word → request_of s ≡ Unknown
-unknown-at s word h e k = request-at s word word h e refl ∙ (apart (Unit {0}) table word s k).1
+pub unknown_at : (s : Setup) (word : ℕ) → s.kind < 256 → word ≡ s.kind + 256 * s.code → Apart (Unit {0}) table word → request_of s ≡ Unknown
+unknown_at s word h e k = request_at s word word h e refl ∙ (apart (Unit {0}) table word s k).1
 
 -- ---- the judgement of a request
 
@@ -93,9 +93,9 @@ module _ (seen : Seen) (memory : List ℕ) (s : Setup) (host room : ℕ) where
       go false = refl
 
   -- of Get Descriptor, by its type
-  pub judged-found : {j : Judgement} → request_of s ≡ Describes → s.kind ≡ 0x80
+  pub judged_found : {j : Judgement} → request_of s ≡ Describes → s.kind ≡ 0x80
       → j ≡ found_by seen memory s (first (described_checks seen memory s host)) → j ≡ judgement (request_of s)
-  judged-found e k h = judged_as_lem e (rw (k, le-ltb room 0 (omega arith)) h)
+  judged_found e k h = judged_as_lem e (rw (k, le-ltb room 0 (omega arith)) h)
 
 -- ---- checks in two parts: an answer is that of the first part, and where none of it applies the second decides
 
@@ -103,8 +103,8 @@ module _ (r : Request) (s : Setup) (cs ds : List Check) (n : numbered cs ≡ tru
   in_parts : first (cs ++ ds) ≡ cond (eqb answer 0) (first ds) answer
   in_parts = rw by (first_append cs ds n)
 
-  pub refused-by : (answer ≡ 0 → ⊥) → Refused answer ≡ judged_by r s (first (cs ++ ds))
-  refused-by h =
+  pub refused_by : (answer ≡ 0 → ⊥) → Refused answer ≡ judged_by r s (first (cs ++ ds))
+  refused_by h =
       let z = ne_eqb answer 0 h in
       rw (rw z at in_parts, z)
 

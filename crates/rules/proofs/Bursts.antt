@@ -37,9 +37,9 @@ held_has P s p q = go (ltb 31 (length s))
     go true = q
     go false = p
 
-pub held-length : (s : List ℕ) → length (kept s) ≤ 32
+pub held_length : (s : List ℕ) → length (kept s) ≤ 32
 unfolding kept
-held-length s = go (ltb 31 (length s)) refl
+held_length s = go (ltb 31 (length s)) refl
   where
     go : (t : Bool) → ltb 31 (length s) ≡ t → length (cond t too_long s) ≤ 32
     go true h = omega arith
@@ -59,9 +59,9 @@ unfolding kept
 held_too_long s h = rw (lt-ltb 31 (length s) h)
 
 -- what comes behind what is held is held as if all had come at once
-pub held-behind : (s t : List ℕ) → kept (kept s ++ t) ≡ kept (s ++ t)
+pub held_behind : (s t : List ℕ) → kept (kept s ++ t) ≡ kept (s ++ t)
 unfolding kept
-held-behind s t = go (ltb 31 (length s)) refl
+held_behind s t = go (ltb 31 (length s)) refl
   where
     go : (more : Bool) → ltb 31 (length s) ≡ more
         → (let h : List ℕ = cond more too_long s in cond (ltb 31 (length (h ++ t))) too_long (h ++ t) ≡ cond (ltb 31 (length (s ++ t))) too_long (s ++ t))
@@ -167,11 +167,11 @@ end_mark_leaves w p room h =
 pub soft_drops : (p : Phase) → drops (soft_reset p) ≡ true
 soft_drops p = either (λ c. drops c ≡ true) (is_stopped p) _ _ refl refl
 
-report-keeps : (direction failed amount : ℕ) (p : Phase) → drops (report_taken direction failed amount p) ≡ false
-report-keeps direction failed amount Awaiting = refl
-report-keeps direction failed amount (Busy host lun tag l) = refl
-report-keeps direction failed amount (StatusWaiting tag residue status) = refl
-report-keeps direction failed amount (Stopped reset) = refl
+report_keeps : (direction failed amount : ℕ) (p : Phase) → drops (report_taken direction failed amount p) ≡ false
+report_keeps direction failed amount Awaiting = refl
+report_keeps direction failed amount (Busy host lun tag l) = refl
+report_keeps direction failed amount (StatusWaiting tag residue status) = refl
+report_keeps direction failed amount (Stopped reset) = refl
 
 keeps : (w : World) (e : Event) → drops (change_done w e) ≡ false → w.held ≡ cond (drops (change w e)) [] w.held
 unfolding change
@@ -180,12 +180,12 @@ keeps w e k =
     let unchanged : drops (change w e) ≡ false = either (λ c. drops c ≡ false) (done n) _ _ k (either (λ c. drops c ≡ false) (damaged n) _ _ refl refl) in
     rw unchanged
 
-pub held-by-change : (w : World) (e : Event) → is_burst e ≡ false → judges_packet e ≡ false → held_after w e ≡ cond (drops (change w e)) [] w.held
+pub held_by_change : (w : World) (e : Event) → is_burst e ≡ false → judges_packet e ≡ false → held_after w e ≡ cond (drops (change w e)) [] w.held
 unfolding change
-held-by-change w BusReset b p = refl
-held-by-change w (Control setup host room) b p = refl
-held-by-change w (Packet bytes room) b p = absurd (true≢false p)
-held-by-change w (Report direction failed amount) b p = keeps w (Report direction failed amount) (report-keeps direction failed amount w.bridge.phase)
-held-by-change w (StatusRequest room) b p = keeps w (StatusRequest room) refl
-held-by-change w (Burst bytes) b p = absurd (true≢false b)
-held-by-change w (EndMark room) b p = absurd (true≢false p)
+held_by_change w BusReset b p = refl
+held_by_change w (Control setup host room) b p = refl
+held_by_change w (Packet bytes room) b p = absurd (true≢false p)
+held_by_change w (Report direction failed amount) b p = keeps w (Report direction failed amount) (report_keeps direction failed amount w.bridge.phase)
+held_by_change w (StatusRequest room) b p = keeps w (StatusRequest room) refl
+held_by_change w (Burst bytes) b p = absurd (true≢false b)
+held_by_change w (EndMark room) b p = absurd (true≢false p)

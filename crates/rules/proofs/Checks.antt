@@ -133,16 +133,16 @@ all_rows test has [] = has Unknown
 all_rows test has (r ∷ rs) = (not (test r.kind r.code) || has r.names) && all_rows test has rs
 
 -- a row that a setup fits passes every test of kind and code that the setup passes
-row-passes : (test : ℕ → ℕ → Bool) (r : Row) (s : Setup) → fits r s ≡ true → test s.kind s.code ≡ true
+row_passes : (test : ℕ → ℕ → Bool) (r : Row) (s : Setup) → fits r s ≡ true → test s.kind s.code ≡ true
     → test r.kind r.code ≡ true
-row-passes test r s f h = rw ((fitted r s f).kind, (fitted r s f).code) at h
+row_passes test r s f h = rw ((fitted r s f).kind, (fitted r s f).code) at h
 
 lookup_has : (test : ℕ → ℕ → Bool) (has : Named → Bool) (rs : List Row) (s : Setup) → test s.kind s.code ≡ true
     → all_rows test has rs ≡ true → has (lookup rs s) ≡ true
 lookup_has test has [] s h k = k
 lookup_has test has (r ∷ rs) s h k =
     let t = (and-eq-true_iff (not (test r.kind r.code) || has r.names) (all_rows test has rs)).0 k in
-    picked has (fits r s) r.names (lookup rs s) (λ f. rw (row-passes test r s f h) at t.0) (lookup_has test has rs s h t.1)
+    picked has (fits r s) r.names (lookup rs s) (λ f. rw (row_passes test r s f h) at t.0) (lookup_has test has rs s h t.1)
 
 -- so has the request that a setup makes, if its kind and code pass the test
 pub request_has : (test : ℕ → ℕ → Bool) (has : Named → Bool) (s : Setup) → test s.kind s.code ≡ true
@@ -161,30 +161,30 @@ pub ◌also◌ : {A B : Type 0} → A → B → A × B
 x also y = (x, y)
 
 -- so has what it makes, if that is in the table
-lookup-each : (P : Named → Type 0) (s : Setup) (rs : List Row) → EachRow P s rs → is_unknown (lookup rs s) ≡ false → P (lookup rs s)
-lookup-each P s [] each u = absurd (true≢false u)
-lookup-each P s (r ∷ rs) each u = go (fits r s) refl u (lookup-each P s rs each.1)
+lookup_each : (P : Named → Type 0) (s : Setup) (rs : List Row) → EachRow P s rs → is_unknown (lookup rs s) ≡ false → P (lookup rs s)
+lookup_each P s [] each u = absurd (true≢false u)
+lookup_each P s (r ∷ rs) each u = go (fits r s) refl u (lookup_each P s rs each.1)
   where
     go : (t : Bool) → fits r s ≡ t → is_unknown (cond t r.names (lookup rs s)) ≡ false
         → (is_unknown (lookup rs s) ≡ false → P (lookup rs s)) → P (cond t r.names (lookup rs s))
     go true e u ih = each.0 (fitted r s e)
     go false e u ih = ih u
 
-pub request-each : (P : Named → Type 0) (s : Setup) → EachRow P s table → is_unknown (request_of s) ≡ false → P (request_of s)
+pub request_each : (P : Named → Type 0) (s : Setup) → EachRow P s table → is_unknown (request_of s) ≡ false → P (request_of s)
 unfolding request_of
-request-each P s each u = lookup-each P s table each u
+request_each P s each u = lookup_each P s table each u
 
 -- ---- what an accepted request has passed
 
-pub request-passed : (seen : Seen) (memory setup : List ℕ) (host room : ℕ) → request_answer seen memory setup host room ≡ 0
+pub request_passed : (seen : Seen) (memory setup : List ℕ) (host room : ℕ) → request_answer seen memory setup host room ≡ 0
     → Passed (request_checks seen memory (length setup) (setup_of setup) (request_of (setup_of setup)) host room)
 unfolding request_answer
-request-passed seen memory setup host room h =
+request_passed seen memory setup host room h =
     passed (request_checks seen memory (length setup) (setup_of setup) (request_of (setup_of setup)) host room) refl h
 
 -- LOAD_CONFIG_DATA goes out from the host
-load-goes-out : (s : Setup) → request_of s ≡ Known LoadConfigData → ltb s.kind 0x80 ≡ true
-load-goes-out s e = go (ltb s.kind 0x80) refl
+load_goes_out : (s : Setup) → request_of s ≡ Known LoadConfigData → ltb s.kind 0x80 ≡ true
+load_goes_out s e = go (ltb s.kind 0x80) refl
   where
     go : (t : Bool) → ltb s.kind 0x80 ≡ t → t ≡ true
     go true h = refl
@@ -192,17 +192,17 @@ load-goes-out s e = go (ltb s.kind 0x80) refl
         absurd (false≢true (rw e at (request_has (λ kind code. not (ltb kind 0x80)) (λ r. not (is_a LoadConfigData r)) s (rw h) refl)))
 
 -- an accepted write has a place and a writable address, and the host has sent it whole
-pub accepted-write : (seen : Seen) (memory setup : List ℕ) (host room : ℕ)
+pub accepted_write : (seen : Seen) (memory setup : List ℕ) (host room : ℕ)
     → (let s = setup_of setup in
     request_of s ≡ Known LoadConfigData → request_answer seen memory setup host room ≡ 0
     → ((in_bytes s.value || in_memory s.value) ≡ true) × (address true (size_of memory) s.value s.index s.length ≡ true) × (host ≡ s.length))
-accepted-write seen memory setup host room e z =
+accepted_write seen memory setup host room e z =
     let s = setup_of setup in
-    let p = request-passed seen memory setup host room z in
+    let p = request_passed seen memory setup host room z in
     let whole : host ≡ sent s = eqb-true host (sent s) (not-false _ p.1.1.1.1.1.1.1.1.1.1.1.1.0) in (
       not-false _ (rw e at p.1.1.1.0),
       not-false _ (rw e at p.1.1.1.1.1.0),
-      rw (load-goes-out s e) at whole,
+      rw (load_goes_out s e) at whole,
     )
 
 -- ---- a refusal says nothing of the memory

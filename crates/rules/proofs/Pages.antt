@@ -12,22 +12,22 @@ use Rattle.rules.specs.Held.{page_bytes}
 use Rattle.rules.specs.Requests.{one_page}
 
 -- what lies so far behind the start of the page of a byte lies in it, as long as that is within the page
-pub same-page : (page start k : ℕ) → 0 < page → start % page + k < page → (start + k) / page ≡ start / page
-same-page page start k some h =
+pub same_page : (page start k : ℕ) → 0 < page → start % page + k < page → (start + k) / page ≡ start / page
+same_page page start k some h =
     let at : start + k ≡ page * (start / page) + (start % page + k) = omega (arith, div-add-mod start page) in
     ap (λ (x : ℕ). x / page) at ∙ mul-add-div some (start / page) (start % page + k) ∙ rw (div-eq_of_lt h) (omega arith)
 
 -- .. and from its end on it does not
-next-page : (page start k : ℕ) → 0 < page → page ≤ start % page + k → start / page < (start + k) / page
-next-page page start k some h =
+next_page : (page start k : ℕ) → 0 < page → page ≤ start % page + k → start / page < (start + k) / page
+next_page page start k some h =
     let at : start + k ≡ page * (start / page) + (start % page + k) = omega (arith, div-add-mod start page) in
     let one : 1 ≤ (start % page + k) / page = (le-div_iff_mul-le some).1 (rw one-mul h) in
     rw at (rw (mul-add-div some (start / page) (start % page + k)) (omega arith))
 
 -- n bytes lie in one page where they and what the page has before them are no more than a page
-pub within-page : (page start n : ℕ) → 0 < page → one_page page start n ≡ leb (start % page + n) page
+pub within_page : (page start n : ℕ) → 0 < page → one_page page start n ≡ leb (start % page + n) page
 unfolding one_page
-within-page page start n some = go (eqb n 0) refl (leb (start % page + n) page) refl
+within_page page start n some = go (eqb n 0) refl (leb (start % page + n) page) refl
   where
     go : (t : Bool) → eqb n 0 ≡ t → (u : Bool) → leb (start % page + n) page ≡ u → (t || eqb (start / page) ((start + n - 1) / page)) ≡ u
     go true e true f = refl
@@ -36,20 +36,20 @@ within-page page start n some = go (eqb n 0) refl (leb (start % page + n) page) 
         let n-some : 0 < n = omega (arith, eqb-false n 0 e) in
         let l = leb-true _ page f in
         let last : start + n - 1 ≡ start + (n - 1) = omega arith in
-        eq-eqb _ _ (sym (ap (λ (x : ℕ). x / page) last ∙ same-page page start (n - 1) some (omega arith)))
+        eq-eqb _ _ (sym (ap (λ (x : ℕ). x / page) last ∙ same_page page start (n - 1) some (omega arith)))
     go false e false f =
         let n-some : 0 < n = omega (arith, eqb-false n 0 e) in
         let l = leb-false _ page f in
         let last : start + n - 1 ≡ start + (n - 1) = omega arith in
-        let further = next-page page start (n - 1) some (omega arith) in
+        let further = next_page page start (n - 1) some (omega arith) in
         ne_eqb _ _ (λ q. let s : start / page ≡ (start + (n - 1)) / page = q ∙ ap (λ (x : ℕ). x / page) last in omega arith)
 
 -- a byte of a write that lies in one page lies in the page of its start
-pub one-page_lem : (page start n j : ℕ) → 0 < page → one_page page start n ≡ true → start ≤ j → j < start + n → j / page ≡ start / page
-one-page_lem page start n j some h from to =
-    let l = leb-true _ page (sym (within-page page start n some) ∙ h) in
+pub one_page_lem : (page start n j : ℕ) → 0 < page → one_page page start n ≡ true → start ≤ j → j < start + n → j / page ≡ start / page
+one_page_lem page start n j some h from to =
+    let l = leb-true _ page (sym (within_page page start n some) ∙ h) in
     let at : j ≡ start + (j - start) = omega arith in
-    ap (λ (x : ℕ). x / page) at ∙ same-page page start (j - start) some (omega arith)
+    ap (λ (x : ℕ). x / page) at ∙ same_page page start (j - start) some (omega arith)
 
 -- ---- the four sizes
 

@@ -26,7 +26,7 @@ use Rattle.rules.specs.Step.{Event, BusReset, Control, Packet, Report, StatusReq
 use Rattle.rules.specs.Promise.{left_at, left, handed_out, leaves, Told, ToldOf, served}
 use Rattle.rules.proofs.Checks.{answer_has, first_append, in_room}
 use Rattle.rules.proofs.Rows.{over-laid}
-use Rattle.rules.proofs.Replies.{reply-count, reply-fits}
+use Rattle.rules.proofs.Replies.{reply_count, reply_fits}
 
 nothing : (e : Event) (o : Outcome World) → o.reply ≡ [] → o.operations ≡ [] → handed_out e o ≡ []
 nothing BusReset o r p = r
@@ -50,77 +50,77 @@ refusal w event room n a d =
     let z : handed_out e (step w e) ≡ [] = nothing e (step w e) (rw (a, d)) (rw (a, d)) in
     rw (z, in_room w e (rw a d), a, d)
 
-pub reset-done : (b : Bridge) → Told b (λ n. BusReset) [] 0 0 (Sets false) []
+pub reset_done : (b : Bridge) → Told b (λ n. BusReset) [] 0 0 (Sets false) []
 unfolding step change
-reset-done b bytes memory = refl
+reset_done b bytes memory = refl
 
 module _ (w : World) (setup host room : List ℕ) where
   abbrev pub control_answer : ℕ
   control_answer = request_answer (seen_of w) w.memory setup (length host) (length room)
 
-  pub control-refused : (n : ℕ) → control_answer ≡ n → done n ≡ false
+  pub control_refused : (n : ℕ) → control_answer ≡ n → done n ≡ false
       → left n 0 (refused n) w.bytes w.memory room ≡ leaves w (Control setup host) room
-  control-refused n a d = refusal w (Control setup host) room n a d
+  control_refused n a d = refusal w (Control setup host) room n a d
 
-  pub control-done : (r : Request) → request_of (setup_of setup) ≡ Known r → length w.bytes ≡ 16 → control_answer ≡ 0
+  pub control_done : (r : Request) → request_of (setup_of setup) ≡ Known r → length w.bytes ≡ 16 → control_answer ≡ 0
       → served r (setup_of setup) host w room ≡ leaves w (Control setup host) room
   unfolding step change
-  control-done r e sixteen a =
+  control_done r e sixteen a =
       let s : Setup = setup_of setup in
       rw (
-        ← reply-count w setup (length host) (length room) sixteen a r e,
-        over-laid room (reply_to (Known r) s w) (reply-fits w setup (length host) (length room) sixteen a r e),
+        ← reply_count w setup (length host) (length room) sixteen a r e,
+        over-laid room (reply_to (Known r) s w) (reply_fits w setup (length host) (length room) sixteen a r e),
         a,
         e,
       )
 
   -- "The reply is a part of the lent memory itself, not a copy."
-  pub control-found : request_of (setup_of setup) ≡ Describes → control_answer ≡ 0
+  pub control_found : request_of (setup_of setup) ≡ Describes → control_answer ≡ 0
       → (let s : Setup = setup_of setup in
       left_at (InMemory (place_in w.bridge.dock.bus_powered (first_string w.bytes) s.value)) 0 (length (reply_to Describes s w)) Nothing w.bytes w.memory room
       ≡ leaves w (Control setup host) room)
   unfolding step change
-  control-found e a = rw (a, e)
+  control_found e a = rw (a, e)
 
 module _ (b : Bridge) (signature : ℕ) (p room : List ℕ) where
   abbrev needed : ℕ
   needed = length (operations_for signature p)
 
-  pub packet-refused : (n : ℕ) → packet_answer b p needed (length room) ≡ n → done n ≡ false → ToldOf b signature (Packet p) room n 0 (refused n) room
-  packet-refused n a d bytes memory h = refusal (world b bytes memory) (Packet p) room n (rw h a) d
+  pub packet_refused : (n : ℕ) → packet_answer b p needed (length room) ≡ n → done n ≡ false → ToldOf b signature (Packet p) room n 0 (refused n) room
+  packet_refused n a d bytes memory h = refusal (world b bytes memory) (Packet p) room n (rw h a) d
 
   -- .. by what is of the bridge alone
-  pub packet-unawaited : (n : ℕ) → n ≡ first (unawaited_checks b) → (n ≡ 0 → ⊥) → ToldOf b signature (Packet p) room n 0 Nothing room
+  pub packet_unawaited : (n : ℕ) → n ≡ first (unawaited_checks b) → (n ≡ 0 → ⊥) → ToldOf b signature (Packet p) room n 0 Nothing room
   unfolding packet_answer
-  packet-unawaited n a other =
+  packet_unawaited n a other =
       let d : done n ≡ false = ne_eqb n 0 other in
       let decided : packet_answer b p needed (length room) ≡ n = first_append (unawaited_checks b) (awaited_checks b.dock.drives p needed (length room)) refl ∙ rw (← a, d) in
       let unharmed : damaged n ≡ false = not-true _ (rw (← a) at (answer_has (λ k. not (damaged k)) (unawaited_checks b) refl)) in
-      rw unharmed at (packet-refused n decided d)
+      rw unharmed at (packet_refused n decided d)
 
-  pub packet-done : packet_answer b p needed (length room) ≡ 0
+  pub packet_done : packet_answer b p needed (length room) ≡ 0
       → ToldOf b signature (Packet p) room 0 needed (command_taken (recognises signature p) (command_of p)) (laid (operations_for signature p) room)
   unfolding step change
-  packet-done a bytes memory h = rw (h, a)
+  packet_done a bytes memory h = rw (h, a)
 
 module _ (b : Bridge) (direction failed amount : ℕ) where
-  pub report-refused : (n : ℕ) → report_answer b direction failed amount ≡ n → done n ≡ false
+  pub report_refused : (n : ℕ) → report_answer b direction failed amount ≡ n → done n ≡ false
       → Told b (λ k. Report direction failed amount) [] n 0 (refused n) []
-  report-refused n a d bytes memory = refusal (world b bytes memory) (λ k. Report direction failed amount) [] n a d
+  report_refused n a d bytes memory = refusal (world b bytes memory) (λ k. Report direction failed amount) [] n a d
 
-  pub report-done : (p : Phase) → b.phase ≡ p → report_answer b direction failed amount ≡ 0
+  pub report_done : (p : Phase) → b.phase ≡ p → report_answer b direction failed amount ≡ 0
       → Told b (λ k. Report direction failed amount) [] 0 0 (report_taken direction failed amount p) []
   unfolding step change
-  report-done p h a bytes memory = rw (a, h)
+  report_done p h a bytes memory = rw (a, h)
 
 module _ (b : Bridge) (room : List ℕ) where
-  pub status-refused : (n : ℕ) → status_answer b (length room) ≡ n → done n ≡ false → Told b StatusRequest room n 0 (refused n) room
-  status-refused n a d bytes memory = refusal (world b bytes memory) StatusRequest room n a d
+  pub status_refused : (n : ℕ) → status_answer b (length room) ≡ n → done n ≡ false → Told b StatusRequest room n 0 (refused n) room
+  status_refused n a d bytes memory = refusal (world b bytes memory) StatusRequest room n a d
 
-  pub status-done : (tag residue status : ℕ) → b.phase ≡ StatusWaiting tag residue status → status_answer b (length room) ≡ 0
+  pub status_done : (tag residue status : ℕ) → b.phase ≡ StatusWaiting tag residue status → status_answer b (length room) ≡ 0
       → Told b StatusRequest room 0 13 Awaits (laid (status_packet tag residue status) room)
   unfolding step change
-  status-done tag residue status h a bytes memory = rw (a, h)
+  status_done tag residue status h a bytes memory = rw (a, h)
 
 -- "Else status is failed and residue is L minus amount": which is then at most L
 pub amount_fits : (l : ℕ) (host : Direction) (direction amount : ℕ) → mismatch l host direction amount ≡ false → amount ≤ l

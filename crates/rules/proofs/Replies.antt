@@ -14,7 +14,7 @@ use Rattle.rules.specs.declared.Setup.{Setup}
 use Rattle.rules.specs.Held.{World, size_of}
 use Rattle.rules.specs.Requests.{Named, Unknown, Known, Describes, is_unknown, table, setup_of, request_of, in_memory, address, returned, store_of, reply_to, replies}
 use Rattle.rules.specs.Answers.{seen_of, request_answer}
-use Rattle.rules.proofs.Checks.{EachRow, ◌also◌, request-each, request-passed}
+use Rattle.rules.proofs.Checks.{EachRow, ◌also◌, request_each, request_passed}
 
 -- what a setup makes that is to be done replies what wLength says
 abbrev Replying : Setup → Named → Type 0
@@ -22,8 +22,8 @@ Replying s Unknown = Unit {0}
 Replying s (Known r) = returned false s ≡ replies r s
 Replying s Describes = Unit {0}
 
-request-replies : (s : Setup) → is_unknown (request_of s) ≡ false → Replying s (request_of s)
-request-replies s u = request-each (Replying s) s rows u
+request_replies : (s : Setup) → is_unknown (request_of s) ≡ false → Replying s (request_of s)
+request_replies s u = request_each (Replying s) s rows u
   where
     rows : EachRow (Replying s) s table
     rows =
@@ -62,15 +62,15 @@ module _ (w : World) (setup : List ℕ) (host room : ℕ) (sixteen : length w.by
   abbrev s : Setup
   s = setup_of setup
 
-  pub read-inside : request_of s ≡ Known ReadConfigData → s.index + s.length ≤ length (store_of s.value w)
-  read-inside e =
-      let p = request-passed (seen_of w) w.memory setup host room accepted in
+  pub read_inside : request_of s ≡ Known ReadConfigData → s.index + s.length ≤ length (store_of s.value w)
+  read_inside e =
+      let p = request_passed (seen_of w) w.memory setup host room accepted in
       inside false w s.value s.index s.length sixteen
       (not-false (address false (size_of w.memory) s.value s.index s.length) (rw e at p.1.1.1.1.1.0))
 
   module _ (r : Request) (named : request_of s ≡ Known r) where
-    pub reply-count : length (reply_to (Known r) s w) ≡ replies r s
-    reply-count = go r named
+    pub reply_count : length (reply_to (Known r) s w) ≡ replies r s
+    reply_count = go r named
       where
         go : (r : Request) → request_of s ≡ Known r → length (reply_to (Known r) s w) ≡ replies r s
         go SetConfiguration h = refl
@@ -81,15 +81,15 @@ module _ (w : World) (setup : List ℕ) (host room : ℕ) (sixteen : length w.by
         go MassStorageReset h = refl
         go LoadConfigData h = refl
         go ReadConfigData h =
-            let k : s.index + s.length ≤ length (store_of s.value w) = read-inside h in
+            let k : s.index + s.length ≤ length (store_of s.value w) = read_inside h in
             length-take-le s.length (drop s.index (store_of s.value w)) (rw length-drop (omega arith))
         go SoftReset h = refl
         go BogusRead h = length-replicate s.length 0
 
-    pub reply-fits : length (reply_to (Known r) s w) ≤ room
-    reply-fits =
-        let p = request-passed (seen_of w) w.memory setup host room accepted in
-        let n : length (reply_to (Known r) s w) ≡ replies r s = reply-count in
-        let k : returned false s ≡ replies r s = rw named at (request-replies s p.1.1.0) in
+    pub reply_fits : length (reply_to (Known r) s w) ≤ room
+    reply_fits =
+        let p = request_passed (seen_of w) w.memory setup host room accepted in
+        let n : length (reply_to (Known r) s w) ≡ replies r s = reply_count in
+        let k : returned false s ≡ replies r s = rw named at (request_replies s p.1.1.0) in
         let l : returned false s ≤ room = ltb-false room (returned false s) (rw named at p.1.1.1.1.1.1.1.1.1.1.1.1.1.0) in
         omega arith

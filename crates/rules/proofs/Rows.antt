@@ -39,8 +39,8 @@ over-laid [] (x ∷ xs) h = absurd (omega arith)
 over-laid (r ∷ room) (x ∷ xs) h = ap (λ (l : List ℕ). x ∷ l) (over-laid room xs (omega arith))
 
 -- what is as long as the row takes its place
-pub over-all : (row xs : List ℕ) → length xs ≡ length row → over row 0 xs ≡ xs
-over-all row xs h =
+pub over_all : (row xs : List ℕ) → length xs ≡ length row → over row 0 xs ≡ xs
+over_all row xs h =
     over-laid row xs (omega arith)
     ∙ ap (λ (l : List ℕ). xs ++ l) (drop_of_length-le row {i = length xs} (omega arith))
     ∙ append-nil xs

@@ -15,17 +15,17 @@ use Rattle.settings.specs.declared.Reading.{Reading}
 use Rattle.settings.specs.Store.{record_length, wrote, written_in}
 use Rattle.mend.specs.declared.Mending.{Mending}
 use Rattle.mend.specs.Mend.{changes, Left, left, mends}
-use Rattle.mend.proofs.Answers.{too_short, no_room, is-done}
-use Rattle.mend.proofs.Listed.{thirteen-at-most}
+use Rattle.mend.proofs.Answers.{too_short, no_room, is_done}
+use Rattle.mend.proofs.Listed.{thirteen_at_most}
 use Rattle.service.specs.Calls.{readout, showing, result, lays}
 
 -- what is read, shown or not
 module _ (r : Reading) (bytes : List ℕ) (page : ℕ) where
-  pub is-shown : {n : ℕ} → r.answer ≡ 0 → n ≡ page_bytes r.settings.page → readout r.answer r.settings.bytes n ≡ showing r bytes page
-  is-shown z e = rw (e, z) refl
+  pub is_shown : {n : ℕ} → r.answer ≡ 0 → n ≡ page_bytes r.settings.page → readout r.answer r.settings.bytes n ≡ showing r bytes page
+  is_shown z e = rw (e, z) refl
 
-  pub not-shown : (r.answer ≡ 0 → ⊥) → readout r.answer bytes page ≡ showing r bytes page
-  not-shown bad = rw (ne_eqb r.answer 0 bad) refl
+  pub not_shown : (r.answer ≡ 0 → ⊥) → readout r.answer bytes page ≡ showing r bytes page
+  not_shown bad = rw (ne_eqb r.answer 0 bad) refl
 
 -- what is written, or not
 module _ (s : Settings) (room : List ℕ) {answer : ℕ} {after : List ℕ} (says : wrote answer after ≡ written_in s room) where
@@ -37,8 +37,8 @@ module _ (s : Settings) (room : List ℕ) {answer : ℕ} {after : List ℕ} (say
       let same : answer ≡ answer + 256 * cond (done answer) record_length 0 = rw (ne_eqb answer 0 bad) (sym (add-zero answer)) in
       ap (λ (n : ℕ). result n after) same ∙ told
 
-  pub is-written : answer ≡ 0 → result (256 * 19) after ≡ lays s room
-  is-written z =
+  pub is_written : answer ≡ 0 → result (256 * 19) after ≡ lays s room
+  is_written z =
       let same : 256 * 19 ≡ answer + 256 * cond (done answer) record_length 0 = rw z refl in
       ap (λ (n : ℕ). result n after) same ∙ told
 
@@ -56,4 +56,4 @@ few_listed image list {m} says = go (ltb (length image) 0x89) refl (ltb (length 
         omega (arith, listed (no_room image list long (ltb-true (length list) (length (changes image)) f)))
     go false e false f =
         let long = ltb-false (length image) 0x89 e in
-        omega (arith, listed (is-done image list long (ltb-false (length list) (length (changes image)) f)), thirteen-at-most image long)
+        omega (arith, listed (is_done image list long (ltb-false (length list) (length (changes image)) f)), thirteen_at_most image long)

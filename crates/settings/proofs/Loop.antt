@@ -45,19 +45,19 @@ module _ (store : List ℕ) (found : Reading) (at : ℕ) (so : So store found at
     fits = omega (arith, (fine newest (drop at store) (recorded newest (drop at store) passes)).whole, length-drop at store)
 
     -- its length, read from its place in the store
-    pub length-there : {n : ℕ} → n ≡ byte at store + 256 * byte (at + 1) store → n ≡ length_of (drop at store)
-    length-there e =
+    pub length_there : {n : ℕ} → n ≡ byte at store + 256 * byte (at + 1) store → n ≡ length_of (drop at store)
+    length_there e =
         let here : byte 0 (drop at store) ≡ byte at store = get_or-drop at store 0 0 ∙ ap (λ (i : ℕ). byte i store) (add-zero at) in
         e ∙ sym (rw (here, get_or-drop at store 1 0) refl)
 
     pub next : {n : ℕ} → n ≡ byte at store + 256 * byte (at + 1) store → So store r (at + (4 + n))
     next e =
         record {
-          inside = omega (arith, fits, length-there e);
+          inside = omega (arith, fits, length_there e);
           goes_on =
               so.goes_on
               ∙ onward newest found (drop at store) some passes
               ∙ ap (read_on newest 0 (record_read newest (drop at store))) (drop-drop (4 + length_of (drop at store)) at store)
               ∙ ap (λ (r : Reading). read_on newest 0 r (drop (at + (4 + length_of (drop at store))) store)) (sym read)
-              ∙ ap (λ (m : ℕ). read_on newest 0 r (drop (at + (4 + m)) store)) (sym (length-there e));
+              ∙ ap (λ (m : ℕ). read_on newest 0 r (drop (at + (4 + m)) store)) (sym (length_there e));
         }

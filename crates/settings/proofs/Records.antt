@@ -50,14 +50,14 @@ pub record Fine (k : ℕ) (s : List ℕ) : Type 0 where
   pub fits : length_of s ≡ length_for (kind_of s)
 
 module _ (k : ℕ) (s : List ℕ) (passes : first (record_checks k s) ≡ 0) where
-  not-refused : {number : ℕ} → record_read k s ≡ refused (suc number) → ⊥
-  not-refused {number} e = suc-ne-zero number (numbered k s e ∙ passes)
+  not_refused : {number : ℕ} → record_read k s ≡ refused (suc number) → ⊥
+  not_refused {number} e = suc-ne-zero number (numbered k s e ∙ passes)
 
   whole : 4 + length_of s ≤ length s
   whole = go (ltb (length s) (4 + length_of s)) refl
     where
       go : (t : Bool) → ltb (length s) (4 + length_of s) ≡ t → 4 + length_of s ≤ length s
-      go true e = absurd (not-refused (cut k s refl (ltb-true (length s) (4 + length_of s) e)))
+      go true e = absurd (not_refused (cut k s refl (ltb-true (length s) (4 + length_of s) e)))
       go false e = ltb-false (length s) (4 + length_of s) e
 
   known : knows k (kind_of s) ≡ true
@@ -65,14 +65,14 @@ module _ (k : ℕ) (s : List ℕ) (passes : first (record_checks k s) ≡ 0) whe
     where
       go : (t : Bool) → knows k (kind_of s) ≡ t → knows k (kind_of s) ≡ true
       go true e = e
-      go false e = absurd (not-refused (unknown k s refl whole refl e))
+      go false e = absurd (not_refused (unknown k s refl whole refl e))
 
   fits : length_of s ≡ length_for (kind_of s)
   fits = go (eqb (length_of s) (length_for (kind_of s))) refl
     where
       go : (t : Bool) → eqb (length_of s) (length_for (kind_of s)) ≡ t → length_of s ≡ length_for (kind_of s)
       go true e = eqb-true (length_of s) (length_for (kind_of s)) e
-      go false e = absurd (not-refused (other_length k s refl whole refl known (eqb-false (length_of s) (length_for (kind_of s)) e)))
+      go false e = absurd (not_refused (other_length k s refl whole refl known (eqb-false (length_of s) (length_for (kind_of s)) e)))
 
   pub fine : Fine k s
   fine = record { whole = whole; known = known; fits = fits }
@@ -86,14 +86,14 @@ module _ (kind : ℕ) (payload rest : List ℕ) (short : length payload < 65536)
   abbrev store : List ℕ
   store = record_of kind payload ++ rest
 
-  pub made-length : length_of store ≡ length payload
-  made-length = two_bytes (length payload) short
+  pub made_length : length_of store ≡ length payload
+  made_length = two_bytes (length payload) short
 
-  pub made-kind : kind < 65536 → kind_of store ≡ kind
-  made-kind = two_bytes kind
+  pub made_kind : kind < 65536 → kind_of store ≡ kind
+  made_kind = two_bytes kind
 
-  pub made-whole : 4 + length payload ≤ length store
-  made-whole = omega (arith, length-append payload rest)
+  pub made_whole : 4 + length payload ≤ length store
+  made_whole = omega (arith, length-append payload rest)
 
 -- ---- what stands behind a whole record does not enter it
 

@@ -20,7 +20,7 @@ use Rattle.rules.proofs.Demands.Pages.{numbers_are_taken}
 use Rattle.settings.specs.declared.Reading.{Reading}
 use Rattle.settings.specs.Store.{length_of, payload_of, record_of, settings_from, length_for, settings_of, knows, record_checks, hidden, refused, record_read, read_on, read_by, newest, payload_for, written}
 use Rattle.settings.specs.Stores.{accepted, Good, LastCounts, RecordIsRead, OtherByteIs32, SettingsComeBack, RoomIsExact, Unfamiliar, UnfamiliarIsRefused, CutIsRefused, OtherLengthIsRefused, NothingIsRefused, RefusedShowsNothing}
-use Rattle.settings.proofs.Records.{fine, recorded, cut, unknown, other_length, good as record-good, length_alone, record_alone, made-length, made-kind, made-whole}
+use Rattle.settings.proofs.Records.{fine, recorded, cut, unknown, other_length, good as record-good, length_alone, record_alone, made_length, made_kind, made_whole}
 
 -- ---- one record, and what is behind it
 
@@ -90,9 +90,9 @@ refuses k number front s good some says =
     let bad : (record_read k s).answer ≡ 0 → ⊥ = λ z. suc-ne-zero number (sym (ap (λ (r : Reading). r.answer) says) ∙ z) in
     last_counts k front s good some ∙ ends k _ s some bad ∙ says
 
-pub nothing-is-refused : NothingIsRefused
+pub nothing_is_refused : NothingIsRefused
 unfolding read_on
-nothing-is-refused k = refl
+nothing_is_refused k = refl
 
 -- ---- a made record
 
@@ -103,19 +103,19 @@ strange k kind (inr none) = rw (ne_eqb kind 0x0101 none.0, ne_eqb kind 0x0102 no
 knows_plain : (k : ℕ) → 0x0101 ≤ k → knows k 0x0101 ≡ true
 knows_plain k h = rw (le-leb 0x0101 k h) refl
 
-knows-paged : (k : ℕ) → 0x0102 ≤ k → knows k 0x0102 ≡ true
-knows-paged k h = rw (le-leb 0x0102 k h) refl
+knows_paged : (k : ℕ) → 0x0102 ≤ k → knows k 0x0102 ≡ true
+knows_paged k h = rw (le-leb 0x0102 k h) refl
 
 -- one of a kind that the reader knows, as long as it should be, is all of its store
-made-read : (k kind : ℕ) (payload : List ℕ) → kind < 65536 → length payload < 65536 → knows k kind ≡ true → length payload ≡ length_for kind
+made_read : (k kind : ℕ) (payload : List ℕ) → kind < 65536 → length payload < 65536 → knows k kind ≡ true → length payload ≡ length_for kind
     → read_by k (record_of kind payload) ≡ accepted (settings_of kind payload)
 unfolding read_on
-made-read k kind payload h short known fits =
+made_read k kind payload h short known fits =
     let s : List ℕ = record_of kind payload in
-    let says : length_of s ≡ length payload = made-length kind payload [] short in
+    let says : length_of s ≡ length payload = made_length kind payload [] short in
     let holds : payload_of s ≡ payload = ap (λ (n : ℕ). take n payload) says ∙ take-length payload in
     let read : record_read k s ≡ accepted (settings_of kind payload) =
-    record-good k s says (omega arith) (made-kind kind payload [] short h) known fits
+    record-good k s says (omega arith) (made_kind kind payload [] short h) known fits
     ∙ ap (λ (p : List ℕ). accepted (settings_of kind p)) holds in
     let all : length s ≤ 4 + length_of s = omega (arith, says) in
     onward k (refused 23) s (omega arith) (ap (λ (r : Reading). r.answer) read)
@@ -129,30 +129,30 @@ module _ (k kind : ℕ) (front payload rest : List ℕ) (good : Good k front) (h
   among number says =
       ap (read_by k) (append_assoc front (record_of kind payload) rest) ∙ refuses k number front (record_of kind payload ++ rest) good (omega arith) says
 
-  made-unknown : knows k kind ≡ false → read_by k (front ++ record_of kind payload ++ rest) ≡ refused 21
-  made-unknown e =
+  made_unknown : knows k kind ≡ false → read_by k (front ++ record_of kind payload ++ rest) ≡ refused 21
+  made_unknown e =
       among 20
-      (unknown k (record_of kind payload ++ rest) (made-length kind payload rest short) (made-whole kind payload rest short)
-      (made-kind kind payload rest short h) e)
+      (unknown k (record_of kind payload ++ rest) (made_length kind payload rest short) (made_whole kind payload rest short)
+      (made_kind kind payload rest short h) e)
 
   made_other : knows k kind ≡ true → (length payload ≡ length_for kind → ⊥) → read_by k (front ++ record_of kind payload ++ rest) ≡ refused 22
   made_other known e =
       among 21
-      (other_length k (record_of kind payload ++ rest) (made-length kind payload rest short) (made-whole kind payload rest short)
-      (made-kind kind payload rest short h) known e)
+      (other_length k (record_of kind payload ++ rest) (made_length kind payload rest short) (made_whole kind payload rest short)
+      (made_kind kind payload rest short h) known e)
 
 pub unfamiliar_is_refused : UnfamiliarIsRefused
-unfamiliar_is_refused k kind front payload rest good unfamiliar h short = made-unknown k kind front payload rest good h short (strange k kind unfamiliar)
+unfamiliar_is_refused k kind front payload rest good unfamiliar h short = made_unknown k kind front payload rest good h short (strange k kind unfamiliar)
 
-pub other-length-is-refused : OtherLengthIsRefused
-other-length-is-refused k front payload rest good short = (
+pub other_length_is_refused : OtherLengthIsRefused
+other_length_is_refused k front payload rest good short = (
   λ h e. made_other k 0x0101 front payload rest good (omega arith) short (knows_plain k h) e,
-  λ h e. made_other k 0x0102 front payload rest good (omega arith) short (knows-paged k h) e,
+  λ h e. made_other k 0x0102 front payload rest good (omega arith) short (knows_paged k h) e,
 )
 
 -- a beginning of a record has both bytes of its length, or not all of its head
-made-cut : (k kind n : ℕ) (payload : List ℕ) → length payload < 65536 → n < 4 + length payload → record_read k (take n (record_of kind payload)) ≡ refused 20
-made-cut k kind n payload short less = go (ltb n 4) refl
+made_cut : (k kind n : ℕ) (payload : List ℕ) → length payload < 65536 → n < 4 + length payload → record_read k (take n (record_of kind payload)) ≡ refused 20
+made_cut k kind n payload short less = go (ltb n 4) refl
   where
     s : List ℕ
     s = take n (record_of kind payload)
@@ -162,46 +162,46 @@ made-cut k kind n payload short less = go (ltb n 4) refl
 
     says : 4 ≤ n → length_of s ≡ length payload
     says h =
-        rw (get_or-take n (record_of kind payload) 0 0 (omega arith), get_or-take n (record_of kind payload) 1 0 (omega arith)) (made-length kind payload [] short)
+        rw (get_or-take n (record_of kind payload) 0 0 (omega arith), get_or-take n (record_of kind payload) 1 0 (omega arith)) (made_length kind payload [] short)
 
     go : (t : Bool) → ltb n 4 ≡ t → record_read k s ≡ refused 20
     go true e = cut k s refl (omega (arith, held, ltb-true n 4 e))
     go false e = cut k s (says (ltb-false n 4 e)) (omega (arith, held))
 
-pub cut-is-refused : CutIsRefused
-cut-is-refused k kind n front payload good short some less =
+pub cut_is_refused : CutIsRefused
+cut_is_refused k kind n front payload good short some less =
     refuses k 19 front (take n (record_of kind payload)) good
-    (omega (arith, length-take-le n (record_of kind payload) (omega arith))) (made-cut k kind n payload short less)
+    (omega (arith, length-take-le n (record_of kind payload) (omega arith))) (made_cut k kind n payload short less)
 
 -- a record of the newest kind, by its last byte
-paged-read : (k : ℕ) (bytes : List ℕ) (last : ℕ) → length bytes ≡ 14 → 0x0102 ≤ k
+paged_read : (k : ℕ) (bytes : List ℕ) (last : ℕ) → length bytes ≡ 14 → 0x0102 ≤ k
     → read_by k (record_of 0x0102 (bytes ++ last ∷ [])) ≡ accepted (settings_from bytes (page_of (32 * last)))
-paged-read k bytes last h known =
+paged_read k bytes last h known =
     let n : length (bytes ++ last ∷ []) ≡ 15 = length-append bytes (last ∷ []) ∙ omega arith in
-    made-read k 0x0102 (bytes ++ last ∷ []) (omega arith) (omega arith) (knows-paged k known) n
+    made_read k 0x0102 (bytes ++ last ∷ []) (omega arith) (omega arith) (knows_paged k known) n
     ∙ ap (λ (b : List ℕ). accepted (settings_from b (page_of (32 * byte 14 (bytes ++ last ∷ []))))) (take_at bytes (last ∷ []) 14 h)
     ∙ ap (λ (b : ℕ). accepted (settings_from bytes (page_of (32 * b)))) (get_or_at bytes last [] 0 14 h)
 
 pub record_is_read : RecordIsRead
 record_is_read k bytes page h = (
   λ known.
-      made-read k 0x0101 bytes (omega arith) (omega arith) (knows_plain k known) h
+      made_read k 0x0101 bytes (omega arith) (omega arith) (knows_plain k known) h
       ∙ ap (λ (b : List ℕ). accepted (settings_from b Of256)) (take_all 14 bytes (omega arith)),
   λ known.
-      paged-read k bytes (page_bytes page / 32) h known
+      paged_read k bytes (page_bytes page / 32) h known
       ∙ ap (λ (p : PageSize). accepted (settings_from bytes p)) (ap page_of (sym (in_32s page)) ∙ numbers_are_taken.0 page),
 )
 
 pub other_byte_is_32 : OtherByteIs32
 other_byte_is_32 k bytes last h known two four eight =
-    paged-read k bytes last h known
+    paged_read k bytes last h known
     ∙ ap (λ (p : PageSize). accepted (settings_from bytes p))
     (numbers_are_taken.1 (32 * last) (λ e. two (omega arith)) (λ e. four (omega arith)) (λ e. eight (omega arith)))
 
 pub settings_come_back : SettingsComeBack
 settings_come_back s h =
     let n : length (payload_for s) ≡ 15 = length-append s.bytes (page_bytes s.page / 32 ∷ []) ∙ omega arith in
-    ((record_is_read newest s.bytes s.page h).1 (omega arith), refl, made-length newest (payload_for s) [] (omega arith) ∙ n, omega arith)
+    ((record_is_read newest s.bytes s.page h).1 (omega arith), refl, made_length newest (payload_for s) [] (omega arith) ∙ n, omega arith)
 
 pub room_is_exact : RoomIsExact
 room_is_exact s room h =
@@ -235,5 +235,5 @@ hides k zero so_far (b ∷ s) before bad =
     go true e bad behind = behind bad
     go false e bad behind = hides_record k (b ∷ s) bad
 
-pub refused-shows-nothing : RefusedShowsNothing
-refused-shows-nothing k store bad = hides k 0 _ store (λ _. refl) bad
+pub refused_shows_nothing : RefusedShowsNothing
+refused_shows_nothing k store bad = hides k 0 _ store (λ _. refl) bad

@@ -12,20 +12,20 @@ use Rattle.rules.specs.declared.PageSize.{PageSize}
 use Rattle.rules.specs.declared.PageSize.TheVariants.{Of256}
 use Rattle.rules.specs.Words.{byte, first, over}
 use Rattle.rules.specs.Held.{page_of}
-use Rattle.rules.proofs.Rows.{over-all}
+use Rattle.rules.proofs.Rows.{over_all}
 use Rattle.settings.specs.declared.Settings.{Settings}
 use Rattle.settings.specs.Store.{length_of, kind_of, payload_of, settings_from, length_for, settings_of, knows, record_checks, refused, record_read, newest}
 use Rattle.settings.proofs.Records.{Fine, fine}
 
 -- a record is read by the number of its checks
-pub read-refused : (k : ℕ) (s : List ℕ) {n : ℕ} → n ≡ first (record_checks k s) → (n ≡ 0 → ⊥) → refused n ≡ record_read k s
+pub read_refused : (k : ℕ) (s : List ℕ) {n : ℕ} → n ≡ first (record_checks k s) → (n ≡ 0 → ⊥) → refused n ≡ record_read k s
 unfolding record_read
-read-refused k s {n} e bad = rw (← e, ne_eqb n 0 bad) refl
+read_refused k s {n} e bad = rw (← e, ne_eqb n 0 bad) refl
 
-pub read-good : (k : ℕ) (s : List ℕ) {n : ℕ} → n ≡ first (record_checks k s) → n ≡ 0 → {settings : Settings}
+pub read_good : (k : ℕ) (s : List ℕ) {n : ℕ} → n ≡ first (record_checks k s) → n ≡ 0 → {settings : Settings}
     → settings ≡ settings_of (kind_of s) (payload_of s) → record { answer = n; settings = settings } ≡ record_read k s
 unfolding record_read
-read-good k s e z h = rw (← e, z, h) refl
+read_good k s e z h = rw (← e, z, h) refl
 
 -- this edition knows both kinds
 pub knows_both : (kind : ℕ) (t : Bool) → (not (eqb kind 0x0101) && not (eqb kind 0x0102)) ≡ t → knows newest kind ≡ not t
@@ -59,7 +59,7 @@ module _ (k : ℕ) (s : List ℕ) (passes : first (record_checks k s) ≡ 0) whe
   copied zeros h e =
       let n : length (take 14 (drop 4 s)) ≡ 14 = length-take-le 14 (drop 4 s) (omega (arith, length-drop 4 s, eighteen)) in
       e
-      ∙ over-all zeros (take 14 (drop 4 s)) (n ∙ sym h)
+      ∙ over_all zeros (take 14 (drop 4 s)) (n ∙ sym h)
       ∙ sym (take-take 14 (length_of s) (drop 4 s) (omega (arith, f.fits, payload_least (kind_of s))))
 
   pub plain_there : {row : List ℕ} (zeros : List ℕ) → length zeros ≡ 14 → row ≡ over zeros 0 (take 14 (drop 4 s)) → kind_of s ≡ 0x0101
@@ -73,9 +73,9 @@ module _ (k : ℕ) (s : List ℕ) (passes : first (record_checks k s) ≡ 0) whe
     pub nineteen : 18 < length s
     nineteen = omega (arith, f.whole, fifteen)
 
-    last-there : byte 18 s ≡ byte 14 (payload_of s)
-    last-there = sym (get_or-take (length_of s) (drop 4 s) 14 0 (omega (arith, fifteen)) ∙ get_or-drop 4 s 14 0)
+    last_there : byte 18 s ≡ byte 14 (payload_of s)
+    last_there = sym (get_or-take (length_of s) (drop 4 s) 14 0 (omega (arith, fifteen)) ∙ get_or-drop 4 s 14 0)
 
-    pub paged-there : {row : List ℕ} {page : PageSize} (zeros : List ℕ) → length zeros ≡ 14 → row ≡ over zeros 0 (take 14 (drop 4 s))
+    pub paged_there : {row : List ℕ} {page : PageSize} (zeros : List ℕ) → length zeros ≡ 14 → row ≡ over zeros 0 (take 14 (drop 4 s))
         → page ≡ page_of (32 * byte 18 s) → settings_from row page ≡ settings_of (kind_of s) (payload_of s)
-    paged-there zeros h e p = rw (ne_eqb (kind_of s) 0x0101 paged, copied zeros h e, p, last-there) refl
+    paged_there zeros h e p = rw (ne_eqb (kind_of s) 0x0101 paged, copied zeros h e, p, last_there) refl

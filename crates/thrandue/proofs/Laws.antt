@@ -21,8 +21,8 @@ use Rattle.rules.specs.Answers.{unawaited_checks}
 use Rattle.rules.specs.Step.{Event, Control, Packet, Burst, EndMark, step, change}
 use Rattle.rules.specs.Promise.{left_at, leaves, served}
 use Rattle.rules.specs.Demands.Bursts.{is_end_mark}
-use Rattle.rules.proofs.Promises.{packet-unawaited}
-use Rattle.rules.proofs.Bursts.{held-length, leaves_unheld, served_unheld, end_mark_leaves}
+use Rattle.rules.proofs.Promises.{packet_unawaited}
+use Rattle.rules.proofs.Bursts.{held_length, leaves_unheld, served_unheld, end_mark_leaves}
 use Rattle.outcomes.specs.declared.Outcome.{Outcome}
 use Rattle.outcomes.specs.Outcomes.{outcome, left_by}
 use Rattle.packets.specs.Awaited.{Awaits}
@@ -64,10 +64,10 @@ module _ (image memory : List ℕ) (setup host room : List ℕ) where
       (rw e at l ∙ sym (served_unheld q s host (world (decode image) (bytes_of image) memory) (held_of image) room) ∙ g) n r
 
   -- a descriptor that is found leaves everything as it was
-  pub found-there : (at : Address) (n : ℕ)
+  pub found_there : (at : Address) (n : ℕ)
       → left_at (InMemory at) 0 n Nothing (bytes_of image) memory room ≡ leaves (world_of image memory) (Control setup host) room
       → {returned : ℕ} → returned ≡ returns 0 n (InMemory at) → called returned image memory room ≡ calls image memory (Control setup host) room
-  found-there at n l r =
+  found_there at n l r =
       rw r
       (ap (λ (i : List ℕ). called (returns 0 n (InMemory at)) i memory room) (sym (take-append-drop 16 image))
       ∙ ap (in_image (Control setup host (length room)) image) l)
@@ -75,14 +75,14 @@ module _ (image memory : List ℕ) (setup host room : List ℕ) where
 -- ---- a packet, by what the checks of the bridge alone say, of the state as it was loaded
 
 module _ (image : List ℕ) {n : ℕ} {b : Bridge} (says : n ≡ first (unawaited_checks b)) (loaded : b ≡ decode image) where
-  pub unawaited-told : (p room : List ℕ) → (n ≡ 0 → ⊥) → {returned : ℕ} {image' : List ℕ}
+  pub unawaited_told : (p room : List ℕ) → (n ≡ 0 → ⊥) → {returned : ℕ} {image' : List ℕ}
       → (returned ≡ returns n 0 InRoom) × (image' ≡ put Drops image) → CallTold image (Packet p) room returned image' room
-  unawaited-told p room other r memory =
+  unawaited_told p room other r memory =
       told image memory (Packet p) room (outcome n 0 Nothing) refl
-      (packet-unawaited (decode image) (signature_of (bytes_of image)) p room n (rw loaded at says) other (bytes_of image) memory refl) r
+      (packet_unawaited (decode image) (signature_of (bytes_of image)) p room n (rw loaded at says) other (bytes_of image) memory refl) r
 
-  pub awaits-told : n ≡ 0 → Awaits (decode image).dock.drives (decode image)
-  awaits-told z = awaits (decode image) (sym (rw loaded at says) ∙ z)
+  pub awaits_told : n ≡ 0 → Awaits (decode image).dock.drives (decode image)
+  awaits_told z = awaits (decode image) (sym (rw loaded at says) ∙ z)
 
 -- ---- a packet in bursts
 
@@ -99,7 +99,7 @@ end_mark_told image p room h t memory =
 
 -- what is held, by value, is no more than its room
 pub counted : (image : List ℕ) (f : Fragments) → f ≡ held_in image → f.count ≤ 32
-counted image f e = rw e (held-length (take (byte 61 image) (drop 30 image)))
+counted image f e = rw e (held_length (take (byte 61 image) (drop 30 image)))
 
 -- the configuration bytes are sixteen
 pub sixteen : (image : List ℕ) → 16 ≤ length image → length (bytes_of image) ≡ 16

@@ -17,25 +17,25 @@ use Rattle.rules.specs.Demands.Refusals.{judges_packet}
 use Rattle.rules.specs.Demands.Bursts.{is_burst}
 use Rattle.rules.specs.Demands.Sizes.{AllOfBytes, Sized}
 use Rattle.rules.proofs.Demands.Boundary.{after_append, silence, resumption}
-use Rattle.rules.proofs.Bursts.{held-by-change}
-use Rattle.rules.proofs.Demands.Settings.{keeps-count, saved_is_restored}
-use Rattle.rules.proofs.Demands.Sizes.{Measured, sized, stepped, measured, measured-on}
+use Rattle.rules.proofs.Bursts.{held_by_change}
+use Rattle.rules.proofs.Demands.Settings.{keeps_count, saved_is_restored}
+use Rattle.rules.proofs.Demands.Sizes.{Measured, sized, stepped, measured, measured_on}
 use Rattle.settings.specs.declared.Reading.{Reading}
 use Rattle.settings.specs.declared.Settings.{Settings}
 use Rattle.settings.specs.Store.{settings_from, read_by, newest, in_force}
 use Rattle.settings.specs.Stores.{accepted}
-use Rattle.settings.proofs.Stores.{settings_come_back, refused-shows-nothing}
+use Rattle.settings.proofs.Stores.{settings_come_back, refused_shows_nothing}
 use Rattle.image.specs.Image.{powered, world_of, dropped, put, added}
 use Rattle.image.proofs.Holding.{added-length, burst_in_step}
-use Rattle.image.proofs.InStep.{powers_on, powered-length, in_step, dropped_in_step, put-length}
+use Rattle.image.proofs.InStep.{powers_on, powered-length, in_step, dropped_in_step, put_length}
 use Rattle.thrandue.specs.Calls.{returns, holds, powered_by}
 use Rattle.thrandue.specs.Sequences.{StandsForIt, Call, event_of, events_of, Learnt, learnt, Parts, calling, parts_after, learns, parts_since, stands_for, ruled, FromPowerOn, Hushed, AllHushed, CallsAreSilent, CallsResume, RefusedLeavesDefaults, StoredSizeReplaces, StoredIsRestored}
 use Rattle.thrandue.proofs.Laws.{sixteen}
 
 -- ---- one call. The configuration bytes stay sixteen.
 
-sixteen-left : (image memory : List ℕ) (e : Event) → length image ≡ 62 → length (step (world_of image memory) e).next.bytes ≡ 16
-sixteen-left image memory e h = keeps-count (world_of image memory) e ∙ sixteen image (omega arith)
+sixteen_left : (image memory : List ℕ) (e : Event) → length image ≡ 62 → length (step (world_of image memory) e).next.bytes ≡ 16
+sixteen_left image memory e h = keeps_count (world_of image memory) e ∙ sixteen image (omega arith)
 
 module _ (image memory : List ℕ) (h : length image ≡ 62) where
   abbrev w : World
@@ -47,16 +47,16 @@ module _ (image memory : List ℕ) (h : length image ≡ 62) where
       let next : World = (step w e).next in
       Sized (change w e) → world_of (put (change w e) (hold (next.bytes ++ drop 16 image))) next.memory ≡ next
 
-  by-change : (e : Event) → is_burst e ≡ false → judges_packet e ≡ false → Stands (λ i. i) e
+  by_change : (e : Event) → is_burst e ≡ false → judges_packet e ≡ false → Stands (λ i. i) e
   unfolding step
-  by-change e b p z =
-      in_step (change w e) (step w e).next.bytes image (step w e).next.memory (sixteen-left image memory e h) h z
-      ∙ ap (λ (held : List ℕ). holding held (step w e).next) (sym (held-by-change w e b p))
+  by_change e b p z =
+      in_step (change w e) (step w e).next.bytes image (step w e).next.memory (sixteen_left image memory e h) h z
+      ∙ ap (λ (held : List ℕ). holding held (step w e).next) (sym (held_by_change w e b p))
 
-  by-drop : (e : Event) → held_after w e ≡ [] → Stands dropped e
+  by_drop : (e : Event) → held_after w e ≡ [] → Stands dropped e
   unfolding step
-  by-drop e d z =
-      dropped_in_step (change w e) (step w e).next.bytes image (step w e).next.memory (sixteen-left image memory e h) h z
+  by_drop e d z =
+      dropped_in_step (change w e) (step w e).next.bytes image (step w e).next.memory (sixteen_left image memory e h) h z
       ∙ ap (λ (held : List ℕ). holding held (step w e).next) (sym d)
 
   by_burst : (burst : List ℕ) → Stands (added burst) (Burst burst)
@@ -65,13 +65,13 @@ module _ (image memory : List ℕ) (h : length image ≡ 62) where
       ap (λ (i : List ℕ). world_of (added burst i) memory) (take-append-drop 16 image) ∙ burst_in_step burst image memory h
 
   stands : (e : Event) → Stands (holds e) e
-  stands BusReset = by-change BusReset refl refl
-  stands (Control setup host room) = by-change (Control setup host room) refl refl
-  stands (Packet p room) = by-drop (Packet p room) refl
-  stands (Report direction failed amount) = by-change (Report direction failed amount) refl refl
-  stands (StatusRequest room) = by-change (StatusRequest room) refl refl
+  stands BusReset = by_change BusReset refl refl
+  stands (Control setup host room) = by_change (Control setup host room) refl refl
+  stands (Packet p room) = by_drop (Packet p room) refl
+  stands (Report direction failed amount) = by_change (Report direction failed amount) refl refl
+  stands (StatusRequest room) = by_change (StatusRequest room) refl refl
   stands (Burst burst) = by_burst burst
-  stands (EndMark room) = by-drop (EndMark room) refl
+  stands (EndMark room) = by_drop (EndMark room) refl
 
 pub stands_for_it : StandsForIt
 unfolding step
@@ -92,12 +92,12 @@ module _ (s : Parts) (c : Call) (h : length s.0 ≡ 62) where
   abbrev next : Parts
   next = ((calling s c).image, (calling s c).memory)
 
-  image-left : length next.0 ≡ 62
-  image-left =
+  image_left : length next.0 ≡ 62
+  image_left =
       let bytes : List ℕ = (step (stands_for s) (event_of c)).next.bytes in
-      put-length (change (stands_for s) (event_of c)) (holds (event_of c) (bytes ++ drop 16 s.0))
+      put_length (change (stands_for s) (event_of c)) (holds (event_of c) (bytes ++ drop 16 s.0))
       (holds-length (event_of c) (bytes ++ drop 16 s.0)
-      ∙ omega (arith, length-append bytes (drop 16 s.0), length-drop 16 s.0, sixteen-left s.0 s.1 (event_of c) h))
+      ∙ omega (arith, length-append bytes (drop 16 s.0), length-drop 16 s.0, sixteen_left s.0 s.1 (event_of c) h))
 
 -- what is left of parts that stand for a world whose numbers have 32 bits
 record Runs (s : Parts) (w : World) (cs : List Call) : Type 0 where
@@ -111,7 +111,7 @@ runs s (c ∷ cs) h n b =
     let w : World = stands_for s in
     let e : Event = event_of c in
     let now : stands_for (next s c h) ≡ (step w e).next = stands_for_it s.0 s.1 c.event c.room h (sized w e n b.0) in
-    let rest = runs (next s c h) cs (image-left s c h) (subst Measured (sym now) (stepped w e n b.0)) b.1 in
+    let rest = runs (next s c h) cs (image_left s c h) (subst Measured (sym now) (stepped w e n b.0)) b.1 in
     record {
       image = rest.image;
       learnt_so =
@@ -120,13 +120,13 @@ runs s (c ∷ cs) h n b =
       stands_so = rest.stands_so ∙ ap (λ (v : World). after rules v (events_of cs)) now;
     }
 
-since-on : (start : Start) (memory : List ℕ) (cs : List Call) → AllOfBytes (events_of cs) → Runs (powered start, memory) (at_power_on start memory) cs
-since-on start memory cs b =
+since_on : (start : Start) (memory : List ℕ) (cs : List Call) → AllOfBytes (events_of cs) → Runs (powered start, memory) (at_power_on start memory) cs
+since_on start memory cs b =
     subst (λ (w : World). Runs (powered start, memory) w cs) (powers_on start memory)
-    (runs (powered start, memory) cs (powered-length start) (subst Measured (sym (powers_on start memory)) (measured-on start memory)) b)
+    (runs (powered start, memory) cs (powered-length start) (subst Measured (sym (powers_on start memory)) (measured_on start memory)) b)
 
 pub from_power_on : FromPowerOn
-from_power_on start memory cs b = ((since-on start memory cs b).learnt_so, (since-on start memory cs b).stands_so)
+from_power_on start memory cs b = ((since_on start memory cs b).learnt_so, (since_on start memory cs b).stands_so)
 
 -- ---- calls in two parts
 
@@ -142,7 +142,7 @@ bytes_split (c ∷ cs) ds b = let rest = bytes_split cs ds b.1 in ((b.0, rest.0)
 after_both : (start : Start) (memory : List ℕ) (history more : List Call) → AllOfBytes (events_of (history ++ more))
     → stands_for (parts_since start memory (history ++ more)) ≡ after rules (reached rules start memory (events_of history)) (events_of more)
 after_both start memory history more b =
-    (since-on start memory (history ++ more) b).stands_so ∙ ap (reached rules start memory) (events_append history more)
+    (since_on start memory (history ++ more) b).stands_so ∙ ap (reached rules start memory) (events_append history more)
     ∙ after_append _ (events_of history) (events_of more)
 
 -- ---- demand 3
@@ -159,19 +159,19 @@ hushed w (StatusRequest n) room o s = ((step w (StatusRequest n)).answer, rw s)
 hushed w (Burst burst) room o s = tt
 hushed w (EndMark n) room o s = ((step w (EndMark n)).answer, rw o)
 
-all-hushed : (w : World) (cs : List Call) → Silent rules w (events_of cs) → AllHushed cs (ruled w cs)
-all-hushed w [] s = tt
-all-hushed w (c ∷ cs) s = (hushed w (event_of c) c.room s.0 s.1, all-hushed (step w (event_of c)).next cs s.2)
+all_hushed : (w : World) (cs : List Call) → Silent rules w (events_of cs) → AllHushed cs (ruled w cs)
+all_hushed w [] s = tt
+all_hushed w (c ∷ cs) s = (hushed w (event_of c) c.room s.0 s.1, all_hushed (step w (event_of c)).next cs s.2)
 
 pub calls_are_silent : CallsAreSilent
 calls_are_silent start memory history d since b stop =
     let parts = bytes_split history (d ∷ since) b in
-    let before = since-on start memory history parts.0 in
-    let numbers = subst Measured (sym before.stands_so) (measured (at_power_on start memory) (events_of history) (measured-on start memory) parts.0) in
+    let before = since_on start memory history parts.0 in
+    let numbers = subst Measured (sym before.stands_so) (measured (at_power_on start memory) (events_of history) (measured_on start memory) parts.0) in
     let here = runs (parts_since start memory history) (d ∷ since) before.image numbers parts.1 in
     let same = here.learnt_so ∙ ap (λ (w : World). ruled w (d ∷ since)) before.stands_so in
     subst (AllHushed (d ∷ since)) (sym same)
-    (all-hushed (reached rules start memory (events_of history)) (d ∷ since) (silence start memory (events_of history) (event_of d) (events_of since) stop))
+    (all_hushed (reached rules start memory (events_of history)) (d ∷ since) (silence start memory (events_of history) (event_of d) (events_of since) stop))
 
 pub calls_resume : CallsResume
 calls_resume start memory history d since b kept all all' stop ends same =
@@ -193,13 +193,13 @@ replaced given r memory z =
 pub stored_size_replaces : StoredSizeReplaces
 stored_size_replaces given store memory z = replaced given (read_by newest store) memory z
 
-pub refused-leaves-defaults : RefusedLeavesDefaults
-refused-leaves-defaults dock store bad =
-    rw (ne_eqb (read_by newest store).answer 0 bad) (ap (λ (s : Settings). powered (starting dock s.bytes)) (refused-shows-nothing newest store bad))
+pub refused_leaves_defaults : RefusedLeavesDefaults
+refused_leaves_defaults dock store bad =
+    rw (ne_eqb (read_by newest store).answer 0 bad) (ap (λ (s : Settings). powered (starting dock s.bytes)) (refused_shows_nothing newest store bad))
 
 pub stored_is_restored : StoredIsRestored
 stored_is_restored start memory cs given b =
-    let run = since-on start memory cs b in
+    let run = since_on start memory cs b in
     let w : World = stands_for (parts_since start memory cs) in
     let n : length (drop 2 w.bytes) ≡ 14 = length-drop 2 w.bytes ∙ omega (arith, sixteen (parts_since start memory cs).0 (omega (arith, run.image))) in
     let dock : Dock = docked w.bridge.dock.bus_powered given w.bridge.dock.drives in

@@ -1,6 +1,6 @@
 -- One byte more is set and listed, or is as it should be.
 use Rattle.std.proofs.Common.{◌≡◌, arith}
-use Rattle.mend.proofs.Setting.{skips, has_room, takes, counted, is-mended, is-listed}
+use Rattle.mend.proofs.Setting.{skips, has_room, takes, counted, is_mended, is_listed}
 use Rattle.mend.proofs.set.Goals.{then-new-old, else-new-old}
 use Rattle.mend.proofs.set.Goals as goal
 
@@ -25,4 +25,4 @@ pub returns : goal.returns
 returns c =
     let so = c.loop-at.invariant in
     let end : c.loop-at.at ≡ 0x89 = omega arith in
-    (counted so c.requires.0 end, is-mended so c.requires.0 end, is-listed so c.requires.0 end c.requires.1)
+    (counted so c.requires.0 end, is_mended so c.requires.0 end, is_listed so c.requires.0 end c.requires.1)

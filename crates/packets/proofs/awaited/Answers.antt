@@ -1,6 +1,6 @@
 -- Each outcome is what the rules promise: of a packet that is not valid, one that means nothing, and one whose block is judged.
 use Rattle.std.proofs.Common.{ap, not, arith}
-use Rattle.packets.proofs.Commands.{thirty_one, block_part, not_valid, not-meaningful, taken_so}
+use Rattle.packets.proofs.Commands.{thirty_one, block_part, not_valid, not_meaningful, taken_so}
 use Rattle.packets.proofs.awaited.Goals as goal
 
 pub returns-then-not-is_valid : goal.returns-then-not-is_valid
@@ -17,7 +17,7 @@ slice_bounds-judge-end c = omega (arith, thirty_one c.args.packet.now c.is_valid
 pub returns-in-None : goal.returns-in-None
 returns-in-None c = λ b a.
     rw c.stopped-in-None.ensures
-    (not-meaningful c.args.drives b c.args.signature c.args.packet.now c.args.operations.now a c.is_valid.ensures (ap not c.if-not-is_valid.false) c.command_of-c.ensures c.meaning_of-meaning.ensures c.in-None.is)
+    (not_meaningful c.args.drives b c.args.signature c.args.packet.now c.args.operations.now a c.is_valid.ensures (ap not c.if-not-is_valid.false) c.command_of-c.ensures c.meaning_of-meaning.ensures c.in-None.is)
 
 pub returns-in-For : goal.returns-in-For
 returns-in-For c =

@@ -1,7 +1,7 @@
 -- Both orders have the room that they need, and put what `commanded` says.
 use Rattle.std.proofs.Common.{refl, sym, ◌∙◌, arith, [], ◌∷◌, length-append}
 use Rattle.rules.specs.Operations.{Select, writes}
-use Rattle.passthrough.proofs.Rows.{put-put}
+use Rattle.passthrough.proofs.Rows.{put_put}
 use Rattle.passthrough.proofs.put_command.Goals as goal
 
 pub put_register-requires : goal.put_register-requires
@@ -13,9 +13,9 @@ put_register-requires c =
 pub returns-then-is_set : goal.returns-then-is_set
 returns-then-is_set c =
     rw (sym (rw c.requires.1 at c.is_set.ensures) ∙ c.if-is_set.true)
-    (put-put _ _ c.put_register-next.ensures (c.put.ensures (Select c.args.select) refl))
+    (put_put _ _ c.put_register-next.ensures (c.put.ensures (Select c.args.select) refl))
 
 pub returns-else-is_set : goal.returns-else-is_set
 returns-else-is_set c =
     rw (sym (rw c.requires.1 at c.is_set.ensures) ∙ c.if-is_set.false)
-    (put-put _ _ (c.put-next.ensures (Select c.args.select) refl) c.put_register.ensures)
+    (put_put _ _ (c.put-next.ensures (Select c.args.select) refl) c.put_register.ensures)

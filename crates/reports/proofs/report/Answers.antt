@@ -3,25 +3,25 @@ use Rattle.std.proofs.Common.{◌≡◌, false, refl, sym, ◌∙◌, inl, inr}
 use borrow.Author.Tests.{not-true, not-false}
 use Rattle.rules.specs.Answers.{report_answer}
 use Rattle.rules.specs.Held.{is_busy}
-use Rattle.rules.proofs.Promises.{report-refused, report-done}
+use Rattle.rules.proofs.Promises.{report_refused, report_done}
 use Rattle.reports.proofs.report.Goals as goal
 
 pub returns-then-not-b : goal.returns-then-not-b
 unfolding report_answer
-returns-then-not-b c = rw c.refused.ensures (report-refused _ _ _ _ 4 (rw (not-true c.args.b.configured c.if-not-b.true)) refl)
+returns-then-not-b c = rw c.refused.ensures (report_refused _ _ _ _ 4 (rw (not-true c.args.b.configured c.if-not-b.true)) refl)
 
 pub returns-then-is_malformed : goal.returns-then-is_malformed
 unfolding report_answer
 returns-then-is_malformed c =
     rw c.refused-then-is_malformed.ensures
-    (report-refused _ _ _ _ 17
+    (report_refused _ _ _ _ 17
     (rw (not-false c.args.b.configured c.if-not-b.false, c.in-Busy.is, sym c.is_malformed.ensures ∙ c.if-is_malformed.true)) refl)
 
 pub returns-else-is_malformed : goal.returns-else-is_malformed
 unfolding report_answer
 returns-else-is_malformed c =
     rw (c.done.ensures, c.taken.ensures)
-    (report-done _ _ _ _ _ c.in-Busy.is
+    (report_done _ _ _ _ _ c.in-Busy.is
     (rw (not-false c.args.b.configured c.if-not-b.false, c.in-Busy.is, sym c.is_malformed.ensures ∙ c.if-is_malformed.false)))
 
 pub returns-in-Awaiting : goal.returns-in-Awaiting
@@ -29,4 +29,4 @@ unfolding report_answer
 returns-in-Awaiting c =
     let idle : is_busy c.args.b.phase ≡ false =
     elim c.in-Awaiting.is [ inl e ↦ rw e | inr s ↦ elim s [ inl w ↦ rw w.3 | inr w ↦ rw w.1 ] ] in
-    rw c.refused-in-Awaiting.ensures (report-refused _ _ _ _ 16 (rw (not-false c.args.b.configured c.if-not-b.false, idle)) refl)
+    rw c.refused-in-Awaiting.ensures (report_refused _ _ _ _ 16 (rw (not-false c.args.b.configured c.if-not-b.false, idle)) refl)

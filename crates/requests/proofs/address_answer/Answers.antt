@@ -1,7 +1,7 @@
 -- The address rule, by the size of the place: inside it, and of a write what may be written.
 use Rattle.std.proofs.Common.{rules, ◌≡◌, refl, sym, ◌∙◌, Bool, cond}
 use Rattle.rules.specs.Requests.{in_memory}
-use Rattle.requests.proofs.Addresses.{address-by, not-not}
+use Rattle.requests.proofs.Addresses.{address_by, not-not}
 use Rattle.requests.proofs.address_answer.Goals as goal
 
 pub returns-then-not-is_inside : goal.returns-then-not-is_inside
@@ -12,7 +12,7 @@ returns-then-not-is_inside c =
     rw (
       c.if-not-place-in_memory.false,
       c.if-in_memory-size.false,
-      address-by a.size a.start a.n a.writes a.place memory refl size,
+      address_by a.size a.start a.n a.writes a.place memory refl size,
       sym c.is_inside.ensures ∙ c.if-not-is_inside.true,
     )
 
@@ -24,7 +24,7 @@ returns-then-writes c =
     rw (
       c.if-not-place-in_memory.false,
       c.if-in_memory-size.false,
-      address-by a.size a.start a.n a.writes a.place memory refl size,
+      address_by a.size a.start a.n a.writes a.place memory refl size,
       sym c.is_inside.ensures ∙ c.if-not-is_inside.false,
       c.if-writes.true,
       not-not,
@@ -39,7 +39,7 @@ returns c =
     rw (
       c.if-not-place-in_memory.false,
       c.if-in_memory-size.false,
-      address-by a.size a.start a.n a.writes a.place memory refl size,
+      address_by a.size a.start a.n a.writes a.place memory refl size,
       sym c.is_inside.ensures ∙ c.if-not-is_inside.false,
       c.if-writes.false,
     )

@@ -58,15 +58,15 @@ module _ (b : Bridge) (bytes memory held : List ℕ) where
       let second = some_halt w && not (some_halt next) in
       Course r w next running second (second || false || false) false false false
 
-  clear-course : (r x o i : Bool) (running : World) → (o || i) ≡ true
+  clear_course : (r x o i : Bool) (running : World) → (o || i) ≡ true
       → (let change = cond x (clears_pipe (Stopped r) Out i) (clears_pipe (Stopped r) In o) in
       ClearCourse r (halting r o i) (holding (cond (drops change) [] held) (world (made change (halting r o i).bridge) bytes memory)) running)
-  clear-course false true o i running h = rw h (goes_on refl (stands (halted o i b) bytes memory _ h) refl)
-  clear-course false false o i running h = rw h (goes_on refl (stands (halted o i b) bytes memory _ h) refl)
-  clear-course true true o true running h = rw h (goes_on refl (stands (halted false true b) bytes memory _ refl) refl)
-  clear-course true true o false running h = rw h (ended refl refl (λ x. refl))
-  clear-course true false true i running h = goes_on refl (stands (halted true false b) bytes memory _ refl) refl
-  clear-course true false false i running h = rw h (ended refl refl (λ x. refl))
+  clear_course false true o i running h = rw h (goes_on refl (stands (halted o i b) bytes memory _ h) refl)
+  clear_course false false o i running h = rw h (goes_on refl (stands (halted o i b) bytes memory _ h) refl)
+  clear_course true true o true running h = rw h (goes_on refl (stands (halted false true b) bytes memory _ refl) refl)
+  clear_course true true o false running h = rw h (ended refl refl (λ x. refl))
+  clear_course true false true i running h = goes_on refl (stands (halted true false b) bytes memory _ refl) refl
+  clear_course true false false i running h = rw h (ended refl refl (λ x. refl))
 
 module _ (r : Bool) (b : Bridge) (bytes memory held : List ℕ) (h : (b.halts.outward || b.halts.inward) ≡ true) (s : Setup) (host : List ℕ) where
   abbrev standing : World
@@ -81,21 +81,21 @@ module _ (r : Bool) (b : Bridge) (bytes memory held : List ℕ) (h : (b.halts.ou
       Course r standing next (requested q s host t (calmed standing)) second (second || sets || false) (sets || false)
       (is_a MassStorageReset q && t) (is_a LoadConfigData q && t)
 
-  request-course : (q : Named) (t : Bool) → RequestCourse q t
-  request-course q false = simp and-false (goes_on refl (stands b bytes memory _ h) refl)
-  request-course (Known SetConfiguration) true = ended refl refl (λ x. absurd (false≢true x))
-  request-course (Known GetConfiguration) true = goes_on refl (stands b bytes memory _ h) refl
-  request-course (Known ClearFeature) true =
-      clear-course b bytes memory held r (eqb s.index bulk_out) b.halts.outward b.halts.inward _ h
-  request-course (Known GetStatus) true = goes_on refl (stands b bytes memory _ h) refl
-  request-course (Known GetMaxLun) true = goes_on refl (stands b bytes memory _ h) refl
-  request-course (Known MassStorageReset) true = goes_on refl (stands b bytes memory _ h) refl
-  request-course (Known LoadConfigData) true = goes_on refl (stands b _ _ _ h) refl
-  request-course (Known ReadConfigData) true = goes_on refl (stands b bytes memory _ h) refl
-  request-course (Known SoftReset) true = goes_on refl (stands b bytes memory _ h) refl
-  request-course (Known BogusRead) true = goes_on refl (stands b bytes memory _ h) refl
-  request-course Describes true = goes_on refl (stands b bytes memory _ h) refl
-  request-course Unknown true = goes_on refl (stands b bytes memory _ h) refl
+  request_course : (q : Named) (t : Bool) → RequestCourse q t
+  request_course q false = simp and-false (goes_on refl (stands b bytes memory _ h) refl)
+  request_course (Known SetConfiguration) true = ended refl refl (λ x. absurd (false≢true x))
+  request_course (Known GetConfiguration) true = goes_on refl (stands b bytes memory _ h) refl
+  request_course (Known ClearFeature) true =
+      clear_course b bytes memory held r (eqb s.index bulk_out) b.halts.outward b.halts.inward _ h
+  request_course (Known GetStatus) true = goes_on refl (stands b bytes memory _ h) refl
+  request_course (Known GetMaxLun) true = goes_on refl (stands b bytes memory _ h) refl
+  request_course (Known MassStorageReset) true = goes_on refl (stands b bytes memory _ h) refl
+  request_course (Known LoadConfigData) true = goes_on refl (stands b _ _ _ h) refl
+  request_course (Known ReadConfigData) true = goes_on refl (stands b bytes memory _ h) refl
+  request_course (Known SoftReset) true = goes_on refl (stands b bytes memory _ h) refl
+  request_course (Known BogusRead) true = goes_on refl (stands b bytes memory _ h) refl
+  request_course Describes true = goes_on refl (stands b bytes memory _ h) refl
+  request_course Unknown true = goes_on refl (stands b bytes memory _ h) refl
 
 -- the course of every event at a stop
 course : {r : Bool} {w : World} → Stands r w → (e : Event)
@@ -105,7 +105,7 @@ unfolding step change packet_answer report_answer status_answer
 course (stands b bytes memory held h) BusReset = ended refl refl (λ x. absurd (false≢true x))
 course {r} (stands b bytes memory held h) (Control setup host room) =
     rw request_undamaged
-    (request-course r b bytes memory held h (setup_of setup) host (request_of (setup_of setup))
+    (request_course r b bytes memory held h (setup_of setup) host (request_of (setup_of setup))
     (done (request_answer (seen_of (world (configuring true b) bytes memory)) memory setup (length host) room)))
 course (stands b bytes memory held h) (Packet p room) = goes_on refl (stands b bytes memory _ h) refl
 course (stands b bytes memory held h) (Report direction failed amount) = goes_on refl (stands b bytes memory _ h) refl
@@ -128,15 +128,15 @@ ending (ended n c f) h = (c, f)
 -- ---- the events of a stop
 
 -- nothing to hand out
-pub none-given : (t : Bool) → ◌≡◌ {A = List ℕ} (cond t [] []) []
-none-given true = refl
-none-given false = refl
+pub none_given : (t : Bool) → ◌≡◌ {A = List ℕ} (cond t [] []) []
+none_given true = refl
+none_given false = refl
 
 -- a stop hands out no operation and no status packet
 quiet : {r : Bool} {w : World} → Stands r w → (e : Event) → ((step w e).operations ≡ []) × (status_in e (step w e) ≡ [])
 unfolding step change packet_answer report_answer status_answer
 quiet (stands b bytes memory held h) BusReset = (refl, refl)
-quiet (stands b bytes memory held h) (Control setup host room) = (rw none-given, refl)
+quiet (stands b bytes memory held h) (Control setup host room) = (rw none_given, refl)
 quiet (stands b bytes memory held h) (Packet p room) = (refl, refl)
 quiet (stands b bytes memory held h) (Report direction failed amount) = (refl, refl)
 quiet (stands b bytes memory held h) (StatusRequest room) = (refl, refl)
@@ -204,16 +204,16 @@ damage_stops w d g h =
 damage_silent : (w : World) (d : Event) → damaged (step w d).answer ≡ true → ((step w d).operations ≡ []) × (status_in d (step w d) ≡ [])
 unfolding step change
 damage_silent w BusReset h = (refl, refl)
-damage_silent w (Control setup host room) h = (rw none-given, refl)
+damage_silent w (Control setup host room) h = (rw none_given, refl)
 damage_silent w (Packet p room) h = (rw (undone _ h), refl)
-damage_silent w (Report direction failed amount) h = (rw none-given, refl)
-damage_silent w (StatusRequest room) h = (rw none-given, rw (undone _ h))
+damage_silent w (Report direction failed amount) h = (rw none_given, refl)
+damage_silent w (StatusRequest room) h = (rw none_given, rw (undone _ h))
 damage_silent w (Burst burst) h = (refl, refl)
 damage_silent w (EndMark room) h = (rw (undone _ h), refl)
 
 -- a ready bridge that holds nothing is calm
-ready-calm : (w : World) → Ready w → calmed (world (configuring true w.bridge) w.bytes w.memory) ≡ holding [] w
-ready-calm w g =
+ready_calm : (w : World) → Ready w → calmed (world (configuring true w.bridge) w.bytes w.memory) ≡ holding [] w
+ready_calm w g =
     sym
     (λ j.
     world (configuring (g.configured j) (in_phase (g.awaits j) (halted (g.out_runs j) (g.in_runs j) w.bridge))) w.bytes w.memory)
@@ -223,7 +223,7 @@ ready-calm w g =
 request_unheld : (w : World) (setup host : List ℕ) (room : ℕ)
     → (step (holding [] w) (Control setup host room)).next ≡ holding [] (step w (Control setup host room)).next
 unfolding step change
-request_unheld w setup host room = rw none-given
+request_unheld w setup host room = rw none_given
 
 accepted_unheld : (q : Request) (v w : World) (e : Event)
     → cond (accepts rules q w e) (step (holding [] v) e).next (holding [] v) ≡ holding [] (cond (accepts rules q w e) (step v e).next v)
@@ -276,7 +276,7 @@ module _ {start : Start} {memory : List ℕ} {history : List Event} {d : Event} 
   resumed : calmed (after rules (step before d).next since) ≡ holding [] (after rules before (kept_writes rules (step before d).next since))
   resumed =
       lasted.calm
-      ∙ ap (λ w. after rules w (kept_writes rules (step before d).next since)) (ap calmed stopped ∙ ready-calm before s.ready)
+      ∙ ap (λ w. after rules w (kept_writes rules (step before d).next since)) (ap calmed stopped ∙ ready_calm before s.ready)
       ∙ writes_unheld before (step before d).next since
 
 pub silence : Silence rules

@@ -22,9 +22,9 @@ use Rattle.rules.specs.Bursts.{kept}
 use Rattle.rules.specs.Answers.{seen_of, request_answer}
 use Rattle.rules.specs.Step.{BusReset, Control, Packet, Report, StatusRequest, Burst, EndMark, Outcome, done, change, step, rules, after}
 use Rattle.rules.specs.Demands.Bursts.{bursts, in_row, Cutting, BurstIsHeld, is_pair, forgets, HeldIsDropped, HeldEntersNothing}
-use Rattle.rules.proofs.Bursts.{held_whole, held_too_long, held-behind, kept-judged, soft_drops, reply_unheld, standing_unheld}
+use Rattle.rules.proofs.Bursts.{held_whole, held_too_long, held_behind, kept-judged, soft_drops, reply_unheld, standing_unheld}
 use Rattle.rules.proofs.Changes.{either}
-use Rattle.rules.proofs.Checks.{EachRow, ◌also◌, request-each, request-passed, request_undamaged}
+use Rattle.rules.proofs.Checks.{EachRow, ◌also◌, request_each, request_passed, request_undamaged}
 
 -- ---- cutting
 
@@ -39,18 +39,18 @@ after-bursts held w [] = refl
 after-bursts held w (b ∷ bs) = after-bursts (kept (held ++ b)) w bs
 
 -- what is held of a packet is judged as the packet
-packet-kept : (w : World) (s : List ℕ) (room : ℕ) → step w (Packet (kept s) room) ≡ step w (Packet s room)
-packet-kept w s room = ap (λ (j : Outcome World × Change). j.0) (kept-judged w s room)
+packet_kept : (w : World) (s : List ℕ) (room : ℕ) → step w (Packet (kept s) room) ≡ step w (Packet s room)
+packet_kept w s room = ap (λ (j : Outcome World × Change). j.0) (kept-judged w s room)
 
-packet-cut : (w : World) (held : List ℕ) (cut : List (List ℕ)) (room : ℕ)
+packet_cut : (w : World) (held : List ℕ) (cut : List (List ℕ)) (room : ℕ)
     → step w (Packet (held_by held cut) room) ≡ step w (Packet (held ++ in_row cut) room)
-packet-cut w held [] room = ap (λ (p : List ℕ). step w (Packet p room)) (sym (append-nil held))
-packet-cut w held (b ∷ bs) room =
+packet_cut w held [] room = ap (λ (p : List ℕ). step w (Packet p room)) (sym (append-nil held))
+packet_cut w held (b ∷ bs) room =
     let rest : List ℕ = in_row bs in
-    packet-cut w (kept (held ++ b)) bs room
-    ∙ sym (packet-kept w (kept (held ++ b) ++ rest) room)
-    ∙ ap (λ (p : List ℕ). step w (Packet p room)) (held-behind (held ++ b) rest)
-    ∙ packet-kept w ((held ++ b) ++ rest) room
+    packet_cut w (kept (held ++ b)) bs room
+    ∙ sym (packet_kept w (kept (held ++ b) ++ rest) room)
+    ∙ ap (λ (p : List ℕ). step w (Packet p room)) (held_behind (held ++ b) rest)
+    ∙ packet_kept w ((held ++ b) ++ rest) room
     ∙ ap (λ (p : List ℕ). step w (Packet p room)) (append_assoc held b rest)
 
 -- an end mark is the packet of what is held
@@ -61,7 +61,7 @@ end_mark held w room = refl
 pub cutting : Cutting rules
 cutting w cut room =
     let same : step (after rules w (bursts cut)) (EndMark room) ≡ step w (Packet (w.held ++ in_row cut) room) =
-    ap (λ (v : World). step v (EndMark room)) (after-bursts w.held w cut) ∙ end_mark (held_by w.held cut) w room ∙ packet-cut w w.held cut room in (
+    ap (λ (v : World). step v (EndMark room)) (after-bursts w.held w cut) ∙ end_mark (held_by w.held cut) w room ∙ packet_cut w w.held cut room in (
       ap (λ (o : Outcome World). o.answer) same,
       ap (λ (o : Outcome World). o.operations) same,
       ap (λ (o : Outcome World). o.next) same,
@@ -76,15 +76,15 @@ burst_is_held w bytes =
     (refl, (kept all, refl, held_whole all, λ h. ap length (held_too_long all h)))
 
 -- Clear Feature drops where it ends a stop, of either pipe
-clear-drops : (b : Bridge) (p : Phase) (d : Direction) (other : Bool)
+clear_drops : (b : Bridge) (p : Phase) (d : Direction) (other : Bool)
     → (let c = clears_pipe p d other in drops c ≡ (is_stopped p && not (is_stopped (made c (in_phase p b)).phase)))
-clear-drops b Awaiting d other = refl
-clear-drops b (Busy direction lun tag l) d other = refl
-clear-drops b (StatusWaiting tag residue status) d other = refl
-clear-drops b (Stopped false) d other = refl
-clear-drops b (Stopped true) Out true = refl
-clear-drops b (Stopped true) In true = refl
-clear-drops b (Stopped true) d false = refl
+clear_drops b Awaiting d other = refl
+clear_drops b (Busy direction lun tag l) d other = refl
+clear_drops b (StatusWaiting tag residue status) d other = refl
+clear_drops b (Stopped false) d other = refl
+clear_drops b (Stopped true) Out true = refl
+clear_drops b (Stopped true) In true = refl
+clear_drops b (Stopped true) d false = refl
 
 -- an accepted request drops, by its pair
 module _ (setup : List ℕ) (b : Bridge) where
@@ -105,11 +105,11 @@ module _ (setup : List ℕ) (b : Bridge) where
       go : (t : Bool)
           → (let c = cond t (clears_pipe b.phase Out b.halts.inward) (clears_pipe b.phase In b.halts.outward) in
           drops c ≡ (is_stopped b.phase && not (is_stopped (made c b).phase)))
-      go true = clear-drops b b.phase Out b.halts.inward
-      go false = clear-drops b b.phase In b.halts.outward
+      go true = clear_drops b b.phase Out b.halts.inward
+      go false = clear_drops b b.phase In b.halts.outward
 
-  request-drops : EachRow DropsSo s table
-  request-drops =
+  request_drops : EachRow DropsSo s table
+  request_drops =
       (λ h. rw (h.kind, h.code))
       also (λ h. rw h.kind)
       also (λ h. rw (h.kind, h.code) clears)
@@ -123,10 +123,10 @@ module _ (setup : List ℕ) (b : Bridge) where
       also (λ h. rw h.kind)
       also tt
 
-control-drops : (w : World) (setup host : List ℕ) (room : ℕ)
+control_drops : (w : World) (setup host : List ℕ) (room : ℕ)
     → drops (change w (Control setup host room)) ≡ forgets rules w (Control setup host room)
 unfolding step change
-control-drops w setup host room = rw request_undamaged (go (done n) refl)
+control_drops w setup host room = rw request_undamaged (go (done n) refl)
   where
     n : ℕ
     n = request_answer (seen_of w) w.memory setup (length host) room
@@ -141,19 +141,19 @@ control-drops w setup host room = rw request_undamaged (go (done n) refl)
         && (is_pair 0x21 0xFF setup || is_pair 0x40 0x03 setup || is_pair 0x00 0x09 setup
         || (is_pair 0x02 0x01 setup && (is_stopped w.bridge.phase && not (is_stopped (made c w.bridge).phase))))))
     go true e =
-        let k = request-passed (seen_of w) w.memory setup (length host) room (eqb-true n 0 e) in
-        request-each (DropsSo setup w.bridge) (setup_of setup) (request-drops setup w.bridge) k.1.1.0
+        let k = request_passed (seen_of w) w.memory setup (length host) room (eqb-true n 0 e) in
+        request_each (DropsSo setup w.bridge) (setup_of setup) (request_drops setup w.bridge) k.1.1.0
     go false e = refl
 
-pub held-is-dropped : HeldIsDropped rules
+pub held_is_dropped : HeldIsDropped rules
 unfolding step
-held-is-dropped w BusReset h = refl
-held-is-dropped w (Control setup host room) h = ap (λ (t : Bool). cond t [] w.held) (control-drops w setup host room)
-held-is-dropped w (Packet p room) h = refl
-held-is-dropped w (Report direction failed amount) h = refl
-held-is-dropped w (StatusRequest room) h = refl
-held-is-dropped w (Burst bytes) h = absurd (true≢false h)
-held-is-dropped w (EndMark room) h = refl
+held_is_dropped w BusReset h = refl
+held_is_dropped w (Control setup host room) h = ap (λ (t : Bool). cond t [] w.held) (control_drops w setup host room)
+held_is_dropped w (Packet p room) h = refl
+held_is_dropped w (Report direction failed amount) h = refl
+held_is_dropped w (StatusRequest room) h = refl
+held_is_dropped w (Burst bytes) h = absurd (true≢false h)
+held_is_dropped w (EndMark room) h = refl
 
 pub held_enters_nothing : HeldEntersNothing rules
 unfolding step change

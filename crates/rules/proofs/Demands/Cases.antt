@@ -31,18 +31,18 @@ module _ (l : ℕ) (host : Direction) (direction amount : ℕ) (P : Case → Typ
   Every cs = Each (λ c. falls_under l host direction amount c ≡ true → P c) cs
 
   -- of no case, where none fits
-  none-fits : (cs : List Case) → fitting l host direction amount cs ≡ 0 → Every cs
-  none-fits [] n = tt
-  none-fits (c ∷ cs) n =
-      (λ e. absurd (let k : 1 + fitting l host direction amount cs ≡ 0 = rw e at n in omega arith), none-fits cs (omega arith))
+  none_fits : (cs : List Case) → fitting l host direction amount cs ≡ 0 → Every cs
+  none_fits [] n = tt
+  none_fits (c ∷ cs) n =
+      (λ e. absurd (let k : 1 + fitting l host direction amount cs ≡ 0 = rw e at n in omega arith), none_fits cs (omega arith))
 
-  one-fits : (cs : List Case) → fitting l host direction amount cs ≡ 1 → First cs → Every cs
-  one-fits [] n h = tt
-  one-fits (c ∷ cs) n h = go (falls_under l host direction amount c) refl n h (one-fits cs)
+  one_fits : (cs : List Case) → fitting l host direction amount cs ≡ 1 → First cs → Every cs
+  one_fits [] n h = tt
+  one_fits (c ∷ cs) n h = go (falls_under l host direction amount c) refl n h (one_fits cs)
     where
       go : (t : Bool) → falls_under l host direction amount c ≡ t → one t + fitting l host direction amount cs ≡ 1 → cond t (P c) (First cs)
           → (fitting l host direction amount cs ≡ 1 → First cs → Every cs) → Every (c ∷ cs)
-      go true e n h more = (λ x. h, none-fits cs (omega arith))
+      go true e n h more = (λ x. h, none_fits cs (omega arith))
       go false e n h more = (λ x. absurd (false≢true (sym e ∙ x)), more (omega arith) h)
 
 -- ---- what a report with legal numbers says, and how L compares with its amount
@@ -106,14 +106,14 @@ module _ (tag l failed direction amount : ℕ) (b next : Bridge) where
   Finished host wrong = next ≡ made (finished wrong host tag l failed amount) b
 
   -- one case fits, and the first that fits is right: with L = 0 one of the first three, which go by the drive alone
-  settle-none : (host : Direction) → Finished host (mismatch l host direction amount) → l ≡ 0 → Drove direction amount → Settled host
+  settle_none : (host : Direction) → Finished host (mismatch l host direction amount) → l ≡ 0 → Drove direction amount → Settled host
   unfolding mismatch
-  settle-none Out x n (still z) = rw (x, n, z) (refl, refl)
-  settle-none Out x n (inward d q m) = rw (n, m) (refl, rw (n, d, q) at x)
-  settle-none Out x n (outward d q m) = rw (n, m) (refl, rw (n, d, q) at x)
-  settle-none In x n (still z) = rw (x, n, z) (refl, refl)
-  settle-none In x n (inward d q m) = rw (n, m) (refl, rw (n, d, q) at x)
-  settle-none In x n (outward d q m) = rw (n, m) (refl, rw (n, d, q) at x)
+  settle_none Out x n (still z) = rw (x, n, z) (refl, refl)
+  settle_none Out x n (inward d q m) = rw (n, m) (refl, rw (n, d, q) at x)
+  settle_none Out x n (outward d q m) = rw (n, m) (refl, rw (n, d, q) at x)
+  settle_none In x n (still z) = rw (x, n, z) (refl, refl)
+  settle_none In x n (inward d q m) = rw (n, m) (refl, rw (n, d, q) at x)
+  settle_none In x n (outward d q m) = rw (n, m) (refl, rw (n, d, q) at x)
 
   -- .. else one of the ten, a line for each
   settle : (host : Direction) → Finished host (mismatch l host direction amount) → eqb l 0 ≡ false → ltb 0 l ≡ true
@@ -131,24 +131,24 @@ module _ (tag l failed direction amount : ℕ) (b next : Bridge) where
   settle Out x n p (outward d q m) (fewer r s t) = rw (n, m, r, s, t) (refl, rw (n, d, q, p, r, t) at x)
 
 -- a report that is not malformed is answered 0, and finishes the command
-pub report-taken : (w : World) (host : Direction) (lun : Lun) (tag l : ℕ) (direction failed amount : ℕ) → w.bridge.configured ≡ true
+pub report_taken : (w : World) (host : Direction) (lun : Lun) (tag l : ℕ) (direction failed amount : ℕ) → w.bridge.configured ≡ true
     → w.bridge.phase ≡ Busy host lun tag l → malformed direction failed amount ≡ false
     → ((step w (Report direction failed amount)).answer ≡ 0)
     × ((step w (Report direction failed amount)).next.bridge
     ≡ made (finished (mismatch l host direction amount) host tag l failed amount) w.bridge)
 unfolding step change report_answer
-report-taken w host lun tag l direction failed amount c p m = (rw (c, p, m), rw (c, p, m))
+report_taken w host lun tag l direction failed amount c p m = (rw (c, p, m), rw (c, p, m))
 
-pub thirteen-cases : ThirteenCases rules
-thirteen-cases w host lun tag l direction failed amount c p d f a =
+pub thirteen_cases : ThirteenCases rules
+thirteen_cases w host lun tag l direction failed amount c p d f a =
     let b : Bridge = w.bridge in
     let next : Bridge = (step w (Report direction failed amount)).next.bridge in
-    let r = report-taken w host lun tag l direction failed amount c p (legal direction failed amount d f a) in
+    let r = report_taken w host lun tag l direction failed amount c p (legal direction failed amount d f a) in
     let s = by (eqb l 0) refl r.1 in
-    (s.0, r.0, one-fits l host direction amount (Right tag l failed direction amount b next host) cases s.0 s.1)
+    (s.0, r.0, one_fits l host direction amount (Right tag l failed direction amount b next host) cases s.0 s.1)
   where
     by : (t : Bool) → eqb l 0 ≡ t
         → (step w (Report direction failed amount)).next.bridge ≡ made (finished (mismatch l host direction amount) host tag l failed amount) w.bridge
         → Settled tag l failed direction amount w.bridge (step w (Report direction failed amount)).next.bridge host
-    by true n x = settle-none tag l failed direction amount w.bridge _ host x (eqb-true l 0 n) (drove direction amount d a)
+    by true n x = settle_none tag l failed direction amount w.bridge _ host x (eqb-true l 0 n) (drove direction amount d a)
     by false n x = settle tag l failed direction amount w.bridge _ host x n (positive l _ n) (drove direction amount d a) (compared l amount)

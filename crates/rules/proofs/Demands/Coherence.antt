@@ -28,11 +28,11 @@ use Rattle.rules.specs.Step.{operations_for, Event, BusReset, Control, Packet, R
 use Rattle.rules.specs.Demands.Refusals.{damages}
 use Rattle.rules.specs.Demands.Requests.{wire, asking}
 use Rattle.rules.specs.Demands.Coherence.{Replies, sets_to, configured, ConfigurationIsTold, BusResetIsPowerOn, DockIsFixed, ConfigurationRestarts, PowerOnIsRead, HaltsAreTold, DamageHalts, ClearClears, ResetsAgree, HandsOutItsOwn, AskingChangesNothing, WritingKeepsBridge, StatusKeeps, ZerosAreTold}
-use Rattle.rules.proofs.Demands.Boundary.{none-given}
+use Rattle.rules.proofs.Demands.Boundary.{none_given}
 use Rattle.rules.proofs.Demands.Refusals.{refusals}
 use Rattle.rules.proofs.Changes.{either, feature}
 use Rattle.rules.proofs.Demands.Requests.{whole}
-use Rattle.rules.proofs.Checks.{all_numbers, answer_has, EachRow, ◌also◌, request-each, request-passed, request_undamaged}
+use Rattle.rules.proofs.Checks.{all_numbers, answer_has, EachRow, ◌also◌, request_each, request_passed, request_undamaged}
 
 -- ---- the configuration
 
@@ -79,9 +79,9 @@ report_unset direction failed amount (Stopped reset) = tt
 abbrev SetsConfiguration : List ℕ → Bridge → Named → Type 0
 SetsConfiguration setup b q = configuration (made (change_by q (setup_of setup) b) b) ≡ sets_to (Control setup [] 0) (configuration b)
 
-request-sets : (setup : List ℕ) (b : Bridge) → EachRow (SetsConfiguration setup b) (setup_of setup) table
-request-sets setup b =
-    (λ h. rw (h.kind, h.code) (two-or-none h.value))
+request_sets : (setup : List ℕ) (b : Bridge) → EachRow (SetsConfiguration setup b) (setup_of setup) table
+request_sets setup b =
+    (λ h. rw (h.kind, h.code) (two_or_none h.value))
     also (λ h. rw h.kind)
     also (λ h. rw h.kind (held (clear_feature s.index b) (feature Unset tt (λ d. tt) tt s.index b)))
     also (λ h. rw h.kind)
@@ -100,8 +100,8 @@ request-sets setup b =
     held : (c : Change) → Unset c → configuration (made c b) ≡ configuration b
     held c u = ap (λ (t : Bool). cond t 2 0) (kept c b u)
 
-    two-or-none : {v : ℕ} → (eqb v 0 || eqb v 2) ≡ true → cond (eqb v 2) 2 0 ≡ v
-    two-or-none {v} h = go (eqb v 0) refl (eqb v 2) refl h
+    two_or_none : {v : ℕ} → (eqb v 0 || eqb v 2) ≡ true → cond (eqb v 2) 2 0 ≡ v
+    two_or_none {v} h = go (eqb v 0) refl (eqb v 2) refl h
       where
         go : (t : Bool) → eqb v 0 ≡ t → (u : Bool) → eqb v 2 ≡ u → (t || u) ≡ true → cond u 2 0 ≡ v
         go t e true f h = sym (eqb-true v 2 f)
@@ -113,10 +113,10 @@ same true c = refl
 same false c = refl
 
 -- an event whose change does not set the configuration, whatever its answer
-event-keeps : (w : World) (e : Event) → Unset (change_done w e) → sets_to e (configuration w.bridge) ≡ configuration w.bridge
+event_keeps : (w : World) (e : Event) → Unset (change_done w e) → sets_to e (configuration w.bridge) ≡ configuration w.bridge
     → configuration (step w e).next.bridge ≡ cond (done (step w e).answer) (sets_to e (configuration w.bridge)) (configuration w.bridge)
 unfolding step change
-event-keeps w e u k =
+event_keeps w e u k =
     let n : ℕ = answer w e in
     rw k
     (ap (λ (t : Bool). cond t 2 0)
@@ -124,11 +124,11 @@ event-keeps w e u k =
     (either Unset (done n) (change_done w e) (cond (damaged n) Stops Nothing) u (either Unset (damaged n) Stops Nothing tt tt)))
     ∙ same (done n) (configuration w.bridge))
 
-event-sets : (w : World) (e : Event)
+event_sets : (w : World) (e : Event)
     → configuration (step w e).next.bridge ≡ cond (done (step w e).answer) (sets_to e (configuration w.bridge)) (configuration w.bridge)
 unfolding step change
-event-sets w BusReset = refl
-event-sets w (Control setup host room) = rw request_undamaged (go (done n) refl)
+event_sets w BusReset = refl
+event_sets w (Control setup host room) = rw request_undamaged (go (done n) refl)
   where
     n : ℕ
     n = request_answer (seen_of w) w.memory setup (length host) room
@@ -137,28 +137,28 @@ event-sets w (Control setup host room) = rw request_undamaged (go (done n) refl)
         → configuration (made (cond t (change_by (request_of (setup_of setup)) (setup_of setup) w.bridge) Nothing) w.bridge)
         ≡ cond t (sets_to (Control setup host room) (configuration w.bridge)) (configuration w.bridge)
     go true e =
-        let k = request-passed (seen_of w) w.memory setup (length host) room (eqb-true n 0 e) in
-        request-each (SetsConfiguration setup w.bridge) (setup_of setup) (request-sets setup w.bridge) k.1.1.0
+        let k = request_passed (seen_of w) w.memory setup (length host) room (eqb-true n 0 e) in
+        request_each (SetsConfiguration setup w.bridge) (setup_of setup) (request_sets setup w.bridge) k.1.1.0
     go false e = refl
-event-sets w (Packet p room) = event-keeps w (Packet p room) (command_unset (recognises (signature_of w.bytes) p) (command_of p)) refl
-event-sets w (Report direction failed amount) =
-    event-keeps w (Report direction failed amount) (report_unset direction failed amount w.bridge.phase) refl
-event-sets w (StatusRequest room) = event-keeps w (StatusRequest room) tt refl
-event-sets w (Burst bytes) = event-keeps w (Burst bytes) tt refl
-event-sets w (EndMark room) = event-keeps w (EndMark room) (command_unset (recognises (signature_of w.bytes) w.held) (command_of w.held)) refl
+event_sets w (Packet p room) = event_keeps w (Packet p room) (command_unset (recognises (signature_of w.bytes) p) (command_of p)) refl
+event_sets w (Report direction failed amount) =
+    event_keeps w (Report direction failed amount) (report_unset direction failed amount w.bridge.phase) refl
+event_sets w (StatusRequest room) = event_keeps w (StatusRequest room) tt refl
+event_sets w (Burst bytes) = event_keeps w (Burst bytes) tt refl
+event_sets w (EndMark room) = event_keeps w (EndMark room) (command_unset (recognises (signature_of w.bytes) w.held) (command_of w.held)) refl
 
-run-sets : (w : World) (history : List Event) → configuration (after rules w history).bridge ≡ configured rules w history (configuration w.bridge)
-run-sets w [] = refl
-run-sets w (e ∷ es) = run-sets (step w e).next es ∙ ap (λ (c : ℕ). configured rules (step w e).next es c) (event-sets w e)
+run_sets : (w : World) (history : List Event) → configuration (after rules w history).bridge ≡ configured rules w history (configuration w.bridge)
+run_sets w [] = refl
+run_sets w (e ∷ es) = run_sets (step w e).next es ∙ ap (λ (c : ℕ). configured rules (step w e).next es c) (event_sets w e)
 
-configuration-told : (w : World) → Replies (step w (asking 0x80 0x08 0 0 1)) (configuration w.bridge ∷ [])
+configuration_told : (w : World) → Replies (step w (asking 0x80 0x08 0 0 1)) (configuration w.bridge ∷ [])
 unfolding step change request_of request_answer
-configuration-told w = simp and-false (refl, refl)
+configuration_told w = simp and-false (refl, refl)
 
-pub configuration-is-told : ConfigurationIsTold rules
-configuration-is-told start memory history =
-    let t = configuration-told (after rules (powered start memory) history) in
-    (t.0, t.1 ∙ ap (λ (c : ℕ). c ∷ []) (run-sets (powered start memory) history))
+pub configuration_is_told : ConfigurationIsTold rules
+configuration_is_told start memory history =
+    let t = configuration_told (after rules (powered start memory) history) in
+    (t.0, t.1 ∙ ap (λ (c : ℕ). c ∷ []) (run_sets (powered start memory) history))
 
 pub bus_reset_is_power_on : BusResetIsPowerOn rules
 unfolding step change
@@ -180,13 +180,13 @@ fixed (Clears Out) b = refl
 fixed (Clears In) b = refl
 fixed Ends b = refl
 
-pub run-fixed : (w : World) (history : List Event) → (after rules w history).bridge.dock ≡ w.bridge.dock
+pub run_fixed : (w : World) (history : List Event) → (after rules w history).bridge.dock ≡ w.bridge.dock
 unfolding step
-run-fixed w [] = refl
-run-fixed w (e ∷ es) = run-fixed (step w e).next es ∙ fixed (change w e) w.bridge
+run_fixed w [] = refl
+run_fixed w (e ∷ es) = run_fixed (step w e).next es ∙ fixed (change w e) w.bridge
 
-pub dock-is-fixed : DockIsFixed rules
-dock-is-fixed start memory history = run-fixed (powered start memory) history
+pub dock_is_fixed : DockIsFixed rules
+dock_is_fixed start memory history = run_fixed (powered start memory) history
 
 pub configuration_restarts : ConfigurationRestarts rules
 unfolding step change request_of request_answer
@@ -248,9 +248,9 @@ running_clears (Busy direction lun tag l) h = refl
 running_clears (StatusWaiting tag residue status) h = refl
 running_clears (Stopped reset) h = absurd (true≢false h)
 
-pub clear-clears : ClearClears rules
+pub clear_clears : ClearClears rules
 unfolding step change request_of request_answer
-clear-clears w running =
+clear_clears w running =
     rw (running.configured, running_clears w.bridge.phase running.runs, running.runs)
     (refl, ((refl, refl, refl), refl), refl, refl, refl, ((refl, refl, refl), refl), refl, refl)
 
@@ -263,34 +263,34 @@ resets_agree w running = rw (running.configured, running.runs) (refl, refl, refl
 pub hands_out_its_own : HandsOutItsOwn rules
 unfolding step
 hands_out_its_own w BusReset = (refl, refl)
-hands_out_its_own w (Control setup host room) = rw none-given
-hands_out_its_own w (Packet p room) = rw none-given
-hands_out_its_own w (Report direction failed amount) = (rw none-given, rw none-given)
-hands_out_its_own w (StatusRequest room) = rw none-given
+hands_out_its_own w (Control setup host room) = rw none_given
+hands_out_its_own w (Packet p room) = rw none_given
+hands_out_its_own w (Report direction failed amount) = (rw none_given, rw none_given)
+hands_out_its_own w (StatusRequest room) = rw none_given
 hands_out_its_own w (Burst bytes) = (refl, refl)
-hands_out_its_own w (EndMark room) = rw none-given
+hands_out_its_own w (EndMark room) = rw none_given
 
-pub writing-keeps-bridge : WritingKeepsBridge rules
+pub writing_keeps_bridge : WritingKeepsBridge rules
 unfolding step change request_of
-writing-keeps-bridge w place start n host room =
+writing_keeps_bridge w place start n host room =
     rw request_undamaged (go (done (request_answer (seen_of w) w.memory (wire 0x40 0x01 place start n) (length host) room)))
   where
     go : (t : Bool) → made (cond t Nothing Nothing) w.bridge ≡ w.bridge
     go true = refl
     go false = refl
 
-pub status-keeps : StatusKeeps rules
+pub status_keeps : StatusKeeps rules
 unfolding step change
-status-keeps w room a = rw a ((refl, refl, refl), refl, refl)
+status_keeps w room a = rw a ((refl, refl, refl), refl, refl)
 
 pub zeros_are_told : ZerosAreTold rules
 unfolding step change request_of request_answer
 zeros_are_told w value index n c = rw (c, whole n, le-ltb n n (omega arith)) (refl, refl)
 
 -- a request of the table that asks changes nothing of the bridge and writes nothing
-asking-rows : (s : Setup) (b : Bridge) → 0x80 ≤ s.kind
+asking_rows : (s : Setup) (b : Bridge) → 0x80 ≤ s.kind
     → EachRow (λ q. (change_by q s b ≡ Nothing) × (is_a LoadConfigData q ≡ false)) s table
-asking-rows s b h =
+asking_rows s b h =
     (λ f. absurd (out f.kind refl))
     also (λ f. (refl, refl))
     also (λ f. absurd (out f.kind refl))
@@ -307,9 +307,9 @@ asking-rows s b h =
     out : {k : ℕ} → s.kind ≡ k → ltb k 0x80 ≡ true → ⊥
     out {k} e l = let m = ltb-true k 0x80 l in omega arith
 
-pub asking-changes-nothing : AskingChangesNothing rules
+pub asking_changes_nothing : AskingChangesNothing rules
 unfolding step change
-asking-changes-nothing w setup host room h = rw request_undamaged (go (done n) refl)
+asking_changes_nothing w setup host room h = rw request_undamaged (go (done n) refl)
   where
     n : ℕ
     n = request_answer (seen_of w) w.memory setup (length host) room
@@ -323,7 +323,7 @@ asking-changes-nothing w setup host room h = rw request_undamaged (go (done n) r
         (cond t (memory_after (request_of s) s host w.memory) w.memory))
         ≡ w
     go true e =
-        let k = request-passed (seen_of w) w.memory setup (length host) room (eqb-true n 0 e) in
-        let r = request-each (λ q. (change_by q s w.bridge ≡ Nothing) × (is_a LoadConfigData q ≡ false)) s (asking-rows s w.bridge h) k.1.1.0 in
+        let k = request_passed (seen_of w) w.memory setup (length host) room (eqb-true n 0 e) in
+        let r = request_each (λ q. (change_by q s w.bridge ≡ Nothing) × (is_a LoadConfigData q ≡ false)) s (asking_rows s w.bridge h) k.1.1.0 in
         rw (r.0, r.1)
     go false e = refl

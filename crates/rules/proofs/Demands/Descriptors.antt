@@ -21,8 +21,8 @@ use Rattle.rules.specs.Answers.{seen_of, data_checks, request_answer}
 use Rattle.rules.specs.Step.{BusReset, Control, Packet, Report, StatusRequest, Burst, EndMark, Outcome, done, given, step, rules}
 use Rattle.rules.specs.Demands.Requests.{wire}
 use Rattle.rules.specs.Demands.Descriptors.{wanting, part, Place, device, qualifier, bus_powered, self_powered, string, string_zero, head, says, Search, no_memory, no_place, head_cut, no_head, cut, there, DescriptorIsSought, DescriptorIsTold, FirstStringIsNamed, NothingElseEnters, OnlyDescriptorsStand, WhatStandsIsThere}
-use Rattle.rules.proofs.Checks.{first_append, passed, request_has, request-passed}
-use Rattle.rules.proofs.Demands.Coherence.{asking-changes-nothing}
+use Rattle.rules.proofs.Checks.{first_append, passed, request_has, request_passed}
+use Rattle.rules.proofs.Demands.Coherence.{asking_changes_nothing}
 use Rattle.rules.proofs.Demands.Requests.{whole}
 use Rattle.rules.proofs.Rows.{part_of_front}
 
@@ -49,9 +49,9 @@ module _ (w : World) where
   abbrev start : ℕ → ℕ → ℕ
   start type index = number_of (place_of w.bridge.dock.bus_powered (first_string w.bytes) type index)
 
-  string-placed : (index : ℕ) → Place w 3 index (start 3 index)
+  string_placed : (index : ℕ) → Place w 3 index (start 3 index)
   unfolding place_of
-  string-placed index = go (eqb index 0) refl
+  string_placed index = go (eqb index 0) refl
     where
       twice : (k : ℕ) → k + k ≡ 2 * k
       twice k = omega arith
@@ -62,9 +62,9 @@ module _ (w : World) where
           let some = eqb-false index 0 e in
           subst (λ (k : ℕ). Place w 3 index k) (twice index) (string index (omega arith))
 
-  configuration-placed : Place w 2 0 (start 2 0)
+  configuration_placed : Place w 2 0 (start 2 0)
   unfolding place_of
-  configuration-placed = go w.bridge.dock.bus_powered refl
+  configuration_placed = go w.bridge.dock.bus_powered refl
     where
       go : (b : Bool) → w.bridge.dock.bus_powered ≡ b → Place w 2 0 (number_of (cond b (at 0x2C) (at 0x80)))
       go true e = bus_powered e
@@ -77,9 +77,9 @@ module _ (w : World) where
     where
       go : (a : Bool) → eqb type 3 ≡ a → (z : Bool) → eqb index 0 ≡ z → (b : Bool) → eqb type 1 ≡ b → (c : Bool) → eqb type 2 ≡ c
           → (d : Bool) → eqb type 6 ≡ d → (a || (z && (b || c || d))) ≡ true → Place w type index (start type index)
-      go true e z f b g c i d j h = rw (eqb-true type 3 e) (string-placed index)
+      go true e z f b g c i d j h = rw (eqb-true type 3 e) (string_placed index)
       go false e true f true g c i d j h = rw (eqb-true type 1 g, eqb-true index 0 f) device
-      go false e true f false g true i d j h = rw (eqb-true type 2 i, eqb-true index 0 f) configuration-placed
+      go false e true f false g true i d j h = rw (eqb-true type 2 i, eqb-true index 0 f) configuration_placed
       go false e true f false g false i true j h = rw (eqb-true type 6 j, eqb-true index 0 f) qualifier
       go false e true f false g false i false j h = absurd (false≢true h)
       go false e false f b g c i d j h = absurd (false≢true h)
@@ -130,17 +130,17 @@ part_length : (memory : List ℕ) → length (fitted memory) ≡ size_of memory
 part_length memory = length-take-le (size_of memory) memory (omega arith)
 
 -- without data from the host, and with some
-none-sent : (z : Bool) (f : ℕ) → cond z 7 (cond (eqb f 0) 0 f) ≡ cond z 7 f
-none-sent true f = refl
-none-sent false f = go (eqb f 0) refl
+none_sent : (z : Bool) (f : ℕ) → cond z 7 (cond (eqb f 0) 0 f) ≡ cond z 7 f
+none_sent true f = refl
+none_sent false f = go (eqb f 0) refl
   where
     go : (t : Bool) → eqb f 0 ≡ t → cond t 0 f ≡ f
     go true e = sym (eqb-true f 0 e)
     go false e = refl
 
-some-sent : (z : Bool) (f : ℕ) → cond z 7 (cond (eqb f 0) 2 f) ≡ cond (done (cond z 7 f)) 2 (cond z 7 f)
-some-sent true f = refl
-some-sent false f = refl
+some_sent : (z : Bool) (f : ℕ) → cond z 7 (cond (eqb f 0) 2 f) ≡ cond (done (cond z 7 f)) 2 (cond z 7 f)
+some_sent true f = refl
+some_sent false f = refl
 
 -- the bytes of wValue
 high : (type index : ℕ) → index < 256 → (256 * type + index) / 256 ≡ type
@@ -162,9 +162,9 @@ pub descriptor_is_sought : DescriptorIsSought rules
 descriptor_is_sought w type index language n host room small =
     let f : ℕ = foremost (search w type index) in
     let z : Bool = eqb (length (part w)) 0 in
-    let found = comes_to w type index language n small [] room ∙ none-sent z f in (
+    let found = comes_to w type index language n small [] room ∙ none_sent z f in (
       subst (Search w type index) (sym found) (searched w type index),
-      λ some. comes_to w type index language n small host room ∙ rw (ne_eqb (length host) 0 (λ e. omega arith)) (some-sent z f ∙ rw found),
+      λ some. comes_to w type index language n small host room ∙ rw (ne_eqb (length host) 0 (λ e. omega arith)) (some_sent z f ∙ rw found),
     )
 
 -- ---- what is told
@@ -187,7 +187,7 @@ descriptor_is_told w type index language n host room small a =
     let k = passed (search w type index) refl none in
     let l = part_length w.memory in
     let inside : from w type index + says type (part w) (from w type index) ≤ length (part w) = ltb-false _ _ k.1.1.1.0 in (
-      asking-changes-nothing w (wire 0x80 0x06 value language n) host room (omega arith),
+      asking_changes_nothing w (wire 0x80 0x06 value language n) host room (omega arith),
       (
         from w type index,
         placed w type index (not-false (answered type index) k.0),
@@ -209,22 +209,22 @@ module _ (w : World) (type index language n : ℕ) (small : index < 256) (host :
   abbrev outcome : Outcome World
   outcome = step w (wanting type index language n host room)
 
-  reply-by : outcome.reply
+  reply_by : outcome.reply
       ≡ given outcome.answer (take (min (length_at type (part w) (start w type index)) n) (drop (start w type index) (part w)))
   unfolding step request_of
-  reply-by = rw (whole (256 * type + index), whole n, high type index small, low type index small)
+  reply_by = rw (whole (256 * type + index), whole n, high type index small, low type index small)
 
   stands_by : outcome.stands ≡ cond (done outcome.answer) (InMemory (place_of w.bridge.dock.bus_powered (first_string w.bytes) type index)) InRoom
   unfolding step request_of
   stands_by = rw (whole (256 * type + index), high type index small, low type index small)
 
-  operations-by : outcome.operations ≡ given outcome.answer []
+  operations_by : outcome.operations ≡ given outcome.answer []
   unfolding step
-  operations-by = refl
+  operations_by = refl
 
-pub first-string-is-named : FirstStringIsNamed rules
+pub first_string_is_named : FirstStringIsNamed rules
 unfolding answered place_of
-first-string-is-named w language n host room some small =
+first_string_is_named w language n host room some small =
     let b : ℕ = byte 0x0E w.bytes in
     let zero : 0 < 256 = omega arith in
     let at : start w 3 0 ≡ start w 3 b = rw (ne_eqb b 0 (λ z. omega arith)) in
@@ -232,17 +232,17 @@ first-string-is-named w language n host room some small =
     let answers = comes_to w 3 0 language n zero host room ∙ (λ j. known (foremost (find_checks true 3 0 (at j) (part w))))
     ∙ sym (comes_to w 3 b language n small host room) in
     same answers
-    (reply-by w 3 0 language n zero host room
+    (reply_by w 3 0 language n zero host room
     ∙ (λ j. given (answers j) (take (min (length_at 3 (part w) (at j)) n) (drop (at j) (part w))))
-    ∙ sym (reply-by w 3 b language n small host room))
+    ∙ sym (reply_by w 3 b language n small host room))
     (stands_by w 3 0 language n zero host room
     ∙ (λ j. cond (done (answers j)) (InMemory (record { 0 = at j })) InRoom)
     ∙ sym (stands_by w 3 b language n small host room))
-    (operations-by w 3 0 language n zero host room
+    (operations_by w 3 0 language n zero host room
     ∙ (λ j. given (answers j) [])
-    ∙ sym (operations-by w 3 b language n small host room))
-    (asking-changes-nothing w (wire 0x80 0x06 (256 * 3 + 0) language n) host room (omega arith)
-    ∙ sym (asking-changes-nothing w (wire 0x80 0x06 (256 * 3 + b) language n) host room (omega arith)))
+    ∙ sym (operations_by w 3 b language n small host room))
+    (asking_changes_nothing w (wire 0x80 0x06 (256 * 3 + 0) language n) host room (omega arith)
+    ∙ sym (asking_changes_nothing w (wire 0x80 0x06 (256 * 3 + b) language n) host room (omega arith)))
 
 pub nothing_else_enters : NothingElseEnters rules
 unfolding step request_of
@@ -315,7 +315,7 @@ what_stands_is_there w (Control setup host room) place h = go (done n) refl (req
     go true d (Known r) e h = stands_in_room h
     go true d Describes e h =
         let same : k ≡ place = cc in
-        let p = request-passed (seen_of w) w.memory setup (length host) room (eqb-true n 0 d) in
+        let p = request_passed (seen_of w) w.memory setup (length host) room (eqb-true n 0 d) in
         let whole : k + long ≤ length (fitted w.memory) = ltb-false _ _ (rw e at p.1.1.1.1.1.1.1.1.1.1.1.0) in
         rw (← same) (lies_there k (min long s.length) w.memory (omega arith))
 what_stands_is_there w (Packet p room) place h = stands_in_room h

@@ -30,9 +30,9 @@ numbers_say_drives = (refl, λ n other. rw (ne_eqb n 2 other))
 -- ---- Get Max LUN and packets
 
 -- flags and a block length that are meaningful
-sensible-made : (tag l flags lun size : ℕ) (field : List ℕ) → Sensible flags size → sensible (command_of (wrapper tag l flags lun size field)) ≡ true
+sensible_made : (tag l flags lun size : ℕ) (field : List ℕ) → Sensible flags size → sensible (command_of (wrapper tag l flags lun size field)) ≡ true
 unfolding sensible
-sensible-made tag l flags lun size field (f, some, most) = rw (le-leb 1 size some, le-leb size 16 most) (go f)
+sensible_made tag l flags lun size field (f, some, most) = rw (le-leb 1 size some, le-leb size 16 most) (go f)
   where
     go : (flags ≡ 0x00) ⊎ (flags ≡ 0x80) → ((eqb flags 0x00 || eqb flags 0x80) && true && true) ≡ true
     go (inl e) = rw e
@@ -51,11 +51,11 @@ above drives lun = go (ltb lun (drive_count drives)) refl
     go false e = let h = ltb-false lun (drive_count drives) e in sym (lt-ltb (max_lun drives) lun (omega (arith, most drives)))
 
 -- what a ready bridge answers to a packet that is otherwise meaningful
-ready-answers : (w : World) (p : List ℕ) (room : ℕ) → Ready w → valid p ≡ true → sensible (command_of p) ≡ true
+ready_answers : (w : World) (p : List ℕ) (room : ℕ) → Ready w → valid p ≡ true → sensible (command_of p) ≡ true
     → (step w (Packet p room)).answer
     ≡ cond (not (ltb (byte 13 p) (drive_count w.bridge.dock.drives))) 14 (cond (ltb room (length (packet_makes w p))) 15 0)
 unfolding step packet_answer meaningful
-ready-answers w p room ready v s = rw (ready.configured, ready.awaits, ready.out_runs, v, s)
+ready_answers w p room ready v s = rw (ready.configured, ready.awaits, ready.out_runs, v, s)
 
 -- .. which is 14, the one that damages, where its LUN is too high, and only there
 fourteen : (t u : Bool) → (damages (cond t 14 (cond u 15 0)) ≡ t) × (eqb (cond t 14 (cond u 15 0)) 14 ≡ t)
@@ -73,6 +73,6 @@ unfolding valid
 luns_agree w tag l flags lun size field room ready s sixteen =
     let drives : Drives = w.bridge.dock.drives in
     let p : List ℕ = wrapper tag l flags lun size field in
-    let answers = ready-answers w p room ready (rw sixteen) (sensible-made tag l flags lun size field s) in
+    let answers = ready_answers w p room ready (rw sixteen) (sensible_made tag l flags lun size field s) in
     let k = fourteen (not (ltb lun (drive_count drives))) (ltb room (length (packet_makes w p))) in
     (max_lun drives, most drives, max_lun_told w ready.configured, rw answers (k.0 ∙ above drives lun), rw answers (k.1 ∙ above drives lun))

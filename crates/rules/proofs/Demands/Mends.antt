@@ -25,16 +25,16 @@ use Rattle.rules.specs.Demands.Requests.{wire}
 use Rattle.rules.specs.Demands.Makers.{Free}
 use Rattle.rules.specs.Demands.Mends.{FrontOfRoom, RoomIsEnough, ReportWasLegal, PlaceMends, RoomMends, RoomSuffices, DataMends, WriteMends, ReportMends, DamageMeetsFree}
 use Rattle.rules.proofs.Checks.{all_numbers, answer_has, first_append, Passed, passed, decides, sole}
-use Rattle.rules.proofs.Replies.{reply-fits}
-use Rattle.rules.proofs.Demands.Makers.{needed-most}
+use Rattle.rules.proofs.Replies.{reply_fits}
+use Rattle.rules.proofs.Demands.Makers.{needed_most}
 use Rattle.rules.proofs.Demands.Requests.{whole}
 use Rattle.rules.proofs.Demands.Setups.{one_of}
 use Rattle.rules.proofs.Demands.Stored.{needed, reads, readable, writes}
 
 -- where no check applies, the answer is 0
-all-passed : (cs : List Check) → Passed cs → first cs ≡ 0
-all-passed [] h = refl
-all-passed (c ∷ cs) h = rw h.0 (all-passed cs h.1)
+all_passed : (cs : List Check) → Passed cs → first cs ≡ 0
+all_passed [] h = refl
+all_passed (c ∷ cs) h = rw h.0 (all_passed cs h.1)
 
 -- ---- requests
 
@@ -67,39 +67,39 @@ module _ (w : World) (setup : List ℕ) where
           let f : first front ≡ n = sym (first_append front (data_checks found s host room) refl ∙ rw e) ∙ a in
           absurd (false≢true (rw (eq-eqb (first front) n f) at (answer_has (λ k. not (eqb k n)) front h)))
 
-  returned-most : returned found s ≤ word 6 setup
-  returned-most = go (found || ltb s.kind 0x80)
+  returned_most : returned found s ≤ word 6 setup
+  returned_most = go (found || ltb s.kind 0x80)
     where
       go : (t : Bool) → cond t 0 s.length ≤ word 6 setup
       go true = omega arith
       go false = omega arith
 
-  control-room : (host : List ℕ) (room : ℕ) → (step w (Control setup host room)).answer ≡ 3 → (step w (Control setup host (word 6 setup))).answer ≡ 0
+  control_room : (host : List ℕ) (room : ℕ) → (step w (Control setup host room)).answer ≡ 3 → (step w (Control setup host (word 6 setup))).answer ≡ 0
   unfolding step
-  control-room host room a =
+  control_room host room a =
       let d = data_decide (length host) room 3 a refl in
       let h = (decides 3 (data_checks found s (length host) room) d.0).0 in
       d.1 (length host) (word 6 setup)
-      ∙ all-passed (data_checks found s (length host) (word 6 setup)) (h, (le-ltb (word 6 setup) (returned found s) returned-most, tt))
+      ∙ all_passed (data_checks found s (length host) (word 6 setup)) (h, (le-ltb (word 6 setup) (returned found s) returned_most, tt))
 
   -- data of the right length, with room
   control_data : (host room host' room' : ℕ) → request_answer (seen_of w) w.memory setup host room ≡ 2
       → host' ≡ sent s → returned found s ≤ room' → request_answer (seen_of w) w.memory setup host' room' ≡ 0
   control_data host room host' room' a h r =
       (data_decide host room 2 a refl).1 host' room'
-      ∙ all-passed (data_checks found s host' room') (ap not (eq-eqb host' (sent s) h), (le-ltb room' (returned found s) r, tt))
+      ∙ all_passed (data_checks found s host' room') (ap not (eq-eqb host' (sent s) h), (le-ltb room' (returned found s) r, tt))
 
 pub data_mends : DataMends rules
 unfolding step
 data_mends w setup host sends room a = (
   λ k h.
       control_data w setup (length host) room (length sends) 0 a (rw (lt-ltb (byte 0 setup) 0x80 k) h) (rw (lt-ltb (byte 0 setup) 0x80 k, or-true) (omega arith)),
-  λ k. control_data w setup (length host) room 0 (word 6 setup) a (rw (le-ltb (byte 0 setup) 0x80 k)) (returned-most w setup),
+  λ k. control_data w setup (length host) room 0 (word 6 setup) a (rw (le-ltb (byte 0 setup) 0x80 k)) (returned_most w setup),
 )
 
-pub write-mends : WriteMends rules
+pub write_mends : WriteMends rules
 unfolding step request_of request_answer address one_page
-write-mends w place start n host room = (
+write_mends w place start n host room = (
   λ a.
       let d = rw (whole place, whole start, whole n) at (decides 10 (checks n) a) in
       writes w place start [] (needed w.bridge.configured d.1.0) (not-false _ d.1.1.1.0) d.1.1.1.1.0
@@ -129,10 +129,10 @@ write-mends w place start n host room = (
         rw (k, le-leb (start + 0) 16 (omega arith))
 
 -- a place that is there can be read at its start
-at-start : (w : World) (place : ℕ) → w.bridge.configured ≡ true → (in_bytes place || in_memory place) ≡ true
+at_start : (w : World) (place : ℕ) → w.bridge.configured ≡ true → (in_bytes place || in_memory place) ≡ true
     → (in_memory place && eqb (size_of w.memory) 0) ≡ false → (step w (Control (wire 0xC0 0x02 place 0 1) [] 1)).answer ≡ 0
 unfolding address
-at-start w place c p f = (reads w place 0 1 c p f (go (in_memory place) f)).0
+at_start w place c p f = (reads w place 0 1 c p f (go (in_memory place) f)).0
   where
     m : ℕ
     m = size_of w.memory
@@ -150,9 +150,9 @@ module _ (w : World) (place start n : ℕ) (host : List ℕ) (room : ℕ) where
       let s = setup_of (wire kind code place start n) in
       request_checks (seen_of w) w.memory 8 s (request_of s) (length host) room
 
-  none-fitted : (t : Bool) (behind : List Check) → all_numbers (λ k. not (eqb k 7)) behind ≡ true
+  none_fitted : (t : Bool) (behind : List Check) → all_numbers (λ k. not (eqb k 7)) behind ≡ true
       → ((t && eqb (size_of w.memory) 0) ≡ true) ⊎ (first behind ≡ 7) → length w.memory ≡ 0
-  none-fitted t behind h e =
+  none_fitted t behind h e =
       let f = (and-eq-true_iff t (eqb (size_of w.memory) 0)).0 (sole 7 (t && eqb (size_of w.memory) 0) behind h e) in
       let z = eqb-true (size_of w.memory) 0 f.1 in
       omega arith
@@ -163,8 +163,8 @@ module _ (w : World) (place start n : ℕ) (host : List ℕ) (room : ℕ) where
   write_place = (
     λ a.
         let d = rw (whole place) at (decides 8 (moving 0x40 0x01) a) in
-        at-start w place (needed w.bridge.configured d.1.0) (not-false _ d.1.1.1.0) d.1.1.1.1.0,
-    λ a. none-fitted (in_memory (setup_of (wire 0x40 0x01 place start n)).value) (drop 5 (moving 0x40 0x01)) refl (decides 7 (moving 0x40 0x01) a).1.1.1.1,
+        at_start w place (needed w.bridge.configured d.1.0) (not-false _ d.1.1.1.0) d.1.1.1.1.0,
+    λ a. none_fitted (in_memory (setup_of (wire 0x40 0x01 place start n)).value) (drop 5 (moving 0x40 0x01)) refl (decides 7 (moving 0x40 0x01) a).1.1.1.1,
   )
 
   read_place : ((step w (Control (wire 0xC0 0x02 place start n) host room)).answer ≡ 8 → (step w (Control (wire 0xC0 0x02 place 0 1) [] 1)).answer ≡ 0)
@@ -173,8 +173,8 @@ module _ (w : World) (place start n : ℕ) (host : List ℕ) (room : ℕ) where
   read_place = (
     λ a.
         let d = rw (whole place) at (decides 8 (moving 0xC0 0x02) a) in
-        at-start w place (needed w.bridge.configured d.1.0) (not-false _ d.1.1.1.0) d.1.1.1.1.0,
-    λ a. none-fitted (in_memory (setup_of (wire 0xC0 0x02 place start n)).value) (drop 5 (moving 0xC0 0x02)) refl (decides 7 (moving 0xC0 0x02) a).1.1.1.1,
+        at_start w place (needed w.bridge.configured d.1.0) (not-false _ d.1.1.1.0) d.1.1.1.1.0,
+    λ a. none_fitted (in_memory (setup_of (wire 0xC0 0x02 place start n)).value) (drop 5 (moving 0xC0 0x02)) refl (decides 7 (moving 0xC0 0x02) a).1.1.1.1,
   )
 
 pub place_mends : PlaceMends rules
@@ -183,26 +183,26 @@ place_mends w kind code place start n host room (inr (k, c)) = rw (k, c) (read_p
 
 -- ---- the other events
 
-status-room : (w : World) (room : ℕ) → (step w (StatusRequest room)).answer ≡ 3 → (step w (StatusRequest 13)).answer ≡ 0
+status_room : (w : World) (room : ℕ) → (step w (StatusRequest room)).answer ≡ 3 → (step w (StatusRequest 13)).answer ≡ 0
 unfolding step status_answer
-status-room w room a =
+status_room w room a =
     let d = decides 3 (status_checks w.bridge room) a in
-    all-passed (status_checks w.bridge 13) (d.0, (d.1.0, (d.1.1.0, (refl, tt))))
+    all_passed (status_checks w.bridge 13) (d.0, (d.1.0, (d.1.1.0, (refl, tt))))
 
 -- how many operations a packet makes
 abbrev pub needs : World → List ℕ → ℕ
 needs w p = length (operations_for (signature_of w.bytes) p)
 
-packet-room : (w : World) (p : List ℕ) (room : ℕ) → (step w (Packet p room)).answer ≡ 15 → (step w (Packet p 11)).answer ≡ 0
+packet_room : (w : World) (p : List ℕ) (room : ℕ) → (step w (Packet p room)).answer ≡ 15 → (step w (Packet p 11)).answer ≡ 0
 unfolding step packet_answer
-packet-room w p room a =
+packet_room w p room a =
     let d = decides 15 (packet_checks w.bridge p (needs w p) room) a in
     let e = d.1.1.1 in
-    all-passed (packet_checks w.bridge p (needs w p) 11)
-    (d.0, (d.1.0, (d.1.1.0, (e.0, (e.1.0, (le-ltb 11 (needs w p) (needed-most (signature_of w.bytes) p), tt))))))
+    all_passed (packet_checks w.bridge p (needs w p) 11)
+    (d.0, (d.1.0, (d.1.1.0, (e.0, (e.1.0, (le-ltb 11 (needs w p) (needed_most (signature_of w.bytes) p), tt))))))
 
-pub room-mends : RoomMends rules
-room-mends w setup host p room = (control-room w setup host room, status-room w room, packet-room w p room)
+pub room_mends : RoomMends rules
+room_mends w setup host p room = (control_room w setup host room, status_room w room, packet_room w p room)
 
 pub room_suffices : RoomSuffices rules
 unfolding step packet_answer status_answer
@@ -218,7 +218,7 @@ room_suffices w setup host p room sixteen = (
   where
     requested : (step w (Control setup host room)).answer ≡ 0 → (q : Named) → request_of (setup_of setup) ≡ q → standing q (setup_of setup) w ≡ InRoom
         → length (reply_to q (setup_of setup) w) ≤ room
-    requested a (Known r) e k = reply-fits w setup (length host) room sixteen a r e
+    requested a (Known r) e k = reply_fits w setup (length host) room sixteen a r e
     requested a Describes e k = absurd (let z : ◌≡◌ {A = ℕ} 0 1 = cc in omega arith)
     requested a Unknown e k = omega arith
 
@@ -241,13 +241,13 @@ front_of_room out room k fits = (
   λ at. refl,
 )
 
-pub room-is-enough : RoomIsEnough rules
+pub room_is_enough : RoomIsEnough rules
 unfolding step packet_answer
-room-is-enough w p room a =
+room_is_enough w p room a =
     let k = passed (packet_checks w.bridge p (needs w p) room) refl a in
     let e = k.1.1.1 in
     rw a
-    (all-passed (packet_checks w.bridge p (needs w p) (needs w p))
+    (all_passed (packet_checks w.bridge p (needs w p) (needs w p))
     (k.0, (k.1.0, (k.1.1.0, (e.0, (e.1.0, (le-ltb (needs w p) (needs w p) (omega arith), tt)))))))
 
 pub report_was_legal : ReportWasLegal rules
@@ -264,11 +264,11 @@ report_was_legal w direction failed amount a =
     go false d false f true e false m h = (ltb-false 2 direction d, ltb-false 1 failed f, λ n. let l = ltb-false 0 amount m in omega arith)
     go false d false f false e t m h = (ltb-false 2 direction d, ltb-false 1 failed f, λ n. absurd (eqb-false direction 0 e n))
 
-pub report-mends : ReportMends rules
+pub report_mends : ReportMends rules
 unfolding step report_answer malformed
-report-mends w direction failed amount a =
+report_mends w direction failed amount a =
     let d = decides 17 (report_checks w.bridge direction failed amount) a in
-    all-passed (report_checks w.bridge 0 0 0) (d.0, (d.1.0, (refl, tt)))
+    all_passed (report_checks w.bridge 0 0 0) (d.0, (d.1.0, (refl, tt)))
 
 -- what a packet that is judged has met
 pub met : (w : World) → not w.bridge.configured ≡ false → (is_stopped w.bridge.phase || w.bridge.halts.outward) ≡ false

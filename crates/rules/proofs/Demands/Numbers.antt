@@ -17,8 +17,8 @@ use Rattle.rules.specs.Demands.Makers.{Asks}
 use Rattle.rules.specs.Demands.Numbers.{RequestNumbers, FourIsUnconfigured, SixteenIsNoTurn}
 use Rattle.rules.proofs.Checks.{decides, sole}
 use Rattle.rules.proofs.Demands.Mends.{needs}
-use Rattle.rules.proofs.Demands.Setups.{asked-known, asked-is-found}
-use Rattle.rules.proofs.Demands.Turns.{no-packet, no-report, no-status}
+use Rattle.rules.proofs.Demands.Setups.{asked_known, asked_is_found}
+use Rattle.rules.proofs.Demands.Turns.{no_packet, no_report, no_status}
 
 module _ (w : World) (setup : List ℕ) (host : List ℕ) (room : ℕ) where
   abbrev s : Setup
@@ -37,7 +37,7 @@ module _ (w : World) (setup : List ℕ) (host : List ℕ) (room : ℕ) where
   five a =
       let d = decides 5 checks a in
       let u = sole 5 (is_unknown (request_of s)) (drop 3 checks) refl d.1.1 in
-      (eqb-true (length setup) 8 (not-false _ d.0), λ q k. false≢true (sym (asked-known k) ∙ (rw (asked-is-found setup q k) at u)))
+      (eqb-true (length setup) 8 (not-false _ d.0), λ q k. false≢true (sym (asked_known k) ∙ (rw (asked_is_found setup q k) at u)))
 
   six : first checks ≡ 6 → (word 2 setup ≡ 0x0000 → ⊥) × (word 2 setup ≡ 0x0002 → ⊥)
   six a =
@@ -57,9 +57,9 @@ module _ (w : World) (setup : List ℕ) (host : List ℕ) (room : ℕ) where
       let e = sole 4 (not c && needs_configuration s.kind) (drop 2 checks) refl d.1 in
       (eqb-true (length setup) 8 (not-false _ d.0), not-true c ((and-eq-true_iff (not c) _).0 e).0)
 
-pub request-numbers : RequestNumbers rules
+pub request_numbers : RequestNumbers rules
 unfolding step request_answer
-request-numbers w setup host room = (
+request_numbers w setup host room = (
   one w setup host room,
   λ a. (four w setup host room a).0,
   five w setup host room,
@@ -67,48 +67,48 @@ request-numbers w setup host room = (
   two w setup host room,
 )
 
-packet-four : (w : World) (p : List ℕ) (room : ℕ) → packet_answers w p room ≡ 4 → w.bridge.configured ≡ false
+packet_four : (w : World) (p : List ℕ) (room : ℕ) → packet_answers w p room ≡ 4 → w.bridge.configured ≡ false
 unfolding packet_answer
-packet-four w p room a =
+packet_four w p room a =
     let checks = packet_checks w.bridge p (needs w p) room in
     not-true w.bridge.configured (sole 4 (not w.bridge.configured) (drop 1 checks) refl (decides 4 checks a))
 
-pub four-is-unconfigured : FourIsUnconfigured rules
+pub four_is_unconfigured : FourIsUnconfigured rules
 unfolding step request_answer packet_answer report_answer status_answer
-four-is-unconfigured w BusReset a = absurd (omega arith)
-four-is-unconfigured w (Control setup host room) a = (four w setup host room a).1
-four-is-unconfigured w (Packet p room) a = packet-four w p room a
-four-is-unconfigured w (Report direction failed amount) a =
+four_is_unconfigured w BusReset a = absurd (omega arith)
+four_is_unconfigured w (Control setup host room) a = (four w setup host room a).1
+four_is_unconfigured w (Packet p room) a = packet_four w p room a
+four_is_unconfigured w (Report direction failed amount) a =
     let checks = report_checks w.bridge direction failed amount in
     not-true w.bridge.configured (sole 4 (not w.bridge.configured) (drop 1 checks) refl (decides 4 checks a))
-four-is-unconfigured w (StatusRequest room) a =
+four_is_unconfigured w (StatusRequest room) a =
     let checks = status_checks w.bridge room in
     not-true w.bridge.configured (sole 4 (not w.bridge.configured) (drop 1 checks) refl (decides 4 checks a))
-four-is-unconfigured w (Burst bytes) a = absurd (omega arith)
-four-is-unconfigured w (EndMark room) a = packet-four w w.held room a
+four_is_unconfigured w (Burst bytes) a = absurd (omega arith)
+four_is_unconfigured w (EndMark room) a = packet_four w w.held room a
 
 -- the phase that 16 tells of, event by event
-packet-phase : (w : World) (p : List ℕ) (room : ℕ) → (step w (Packet p room)).answer ≡ 16 → is_awaiting w.bridge.phase ≡ false
+packet_phase : (w : World) (p : List ℕ) (room : ℕ) → (step w (Packet p room)).answer ≡ 16 → is_awaiting w.bridge.phase ≡ false
 unfolding step packet_answer
-packet-phase w p room a =
+packet_phase w p room a =
     let checks = packet_checks w.bridge p (needs w p) room in
     not-true (is_awaiting w.bridge.phase) (sole 16 (not (is_awaiting w.bridge.phase)) (drop 3 checks) refl (decides 16 checks a).1.1)
 
-report-phase : (w : World) (direction failed amount : ℕ) → (step w (Report direction failed amount)).answer ≡ 16 → is_busy w.bridge.phase ≡ false
+report_phase : (w : World) (direction failed amount : ℕ) → (step w (Report direction failed amount)).answer ≡ 16 → is_busy w.bridge.phase ≡ false
 unfolding step report_answer
-report-phase w direction failed amount a =
+report_phase w direction failed amount a =
     let checks = report_checks w.bridge direction failed amount in
     not-true (is_busy w.bridge.phase) (sole 16 (not (is_busy w.bridge.phase)) (drop 2 checks) refl (decides 16 checks a).1)
 
-status-phase : (w : World) (room : ℕ) → (step w (StatusRequest room)).answer ≡ 16 → is_status_waiting w.bridge.phase ≡ false
+status_phase : (w : World) (room : ℕ) → (step w (StatusRequest room)).answer ≡ 16 → is_status_waiting w.bridge.phase ≡ false
 unfolding step status_answer
-status-phase w room a =
+status_phase w room a =
     let checks = status_checks w.bridge room in
     not-true (is_status_waiting w.bridge.phase) (sole 16 (not (is_status_waiting w.bridge.phase)) (drop 3 checks) refl (decides 16 checks a).1.1)
 
-pub sixteen-is-no-turn : SixteenIsNoTurn rules
-sixteen-is-no-turn w = (
-  λ p room a. no-packet w (packet-phase w p room a),
-  λ direction failed amount a. no-report w (report-phase w direction failed amount a),
-  λ room a. no-status w (status-phase w room a),
+pub sixteen_is_no_turn : SixteenIsNoTurn rules
+sixteen_is_no_turn w = (
+  λ p room a. no_packet w (packet_phase w p room a),
+  λ direction failed amount a. no_report w (report_phase w direction failed amount a),
+  λ room a. no_status w (status_phase w room a),
 )

@@ -78,9 +78,9 @@ none_only : (t : Bool) (o : Operation) → NoSelect (o ∷ []) → NoSelect (onl
 none_only true o h = h
 none_only false o h = refl
 
-none-picks : (s : ℕ) (o : ℕ → Operation) → ((r : ℕ) → NoSelect (o r ∷ [])) → (rs : List ℕ) → NoSelect (picks s o rs)
-none-picks s o h [] = refl
-none-picks s o h (r ∷ rs) = rw (selects_append, none_only (bit r s) (o r) (h r), none-picks s o h rs)
+none_picks : (s : ℕ) (o : ℕ → Operation) → ((r : ℕ) → NoSelect (o r ∷ [])) → (rs : List ℕ) → NoSelect (picks s o rs)
+none_picks s o h [] = refl
+none_picks s o h (r ∷ rs) = rw (selects_append, none_only (bit r s) (o r) (h r), none_picks s o h rs)
 
 select_alone : (q z : Bool) (p w v r m : List Operation) (s : ℕ) → NoSelect p → NoSelect w → NoSelect v → NoSelect r → NoSelect m
     → selects_in (arranged q z p w v r m s) ≡ s ∷ []
@@ -94,39 +94,39 @@ select_once lun block l d =
     rw (made_of lun block l d)
     (select_alone _ _ _ _ _ _ _ _
     (none_only (not (bit 2 (action block))) Poll refl)
-    (none-picks (byte 3 block) (λ r. Write r (content block r)) (λ r. refl) (0 ∷ 1 ∷ 2 ∷ 3 ∷ 4 ∷ 5 ∷ []))
-    (none-picks (byte 3 block) (λ r. Write r (content block r)) (λ r. refl) (7 ∷ []))
-    (none-picks (byte 3 block) Read (λ r. refl) (0 ∷ 1 ∷ 2 ∷ 3 ∷ 4 ∷ 5 ∷ 6 ∷ 7 ∷ []))
+    (none_picks (byte 3 block) (λ r. Write r (content block r)) (λ r. refl) (0 ∷ 1 ∷ 2 ∷ 3 ∷ 4 ∷ 5 ∷ []))
+    (none_picks (byte 3 block) (λ r. Write r (content block r)) (λ r. refl) (7 ∷ []))
+    (none_picks (byte 3 block) Read (λ r. refl) (0 ∷ 1 ∷ 2 ∷ 3 ∷ 4 ∷ 5 ∷ 6 ∷ 7 ∷ []))
     (none_only (ltb 0 l) (Transfer (transfer_byte (action block) d)) refl))
 
 -- the bits above bit 4 are those of a 32nd
-bit-above : (b k : ℕ) → bit_of (suc (suc (suc (suc (suc k))))) b ≡ bit_of k (b / 32)
-bit-above b k =
+bit_above : (b k : ℕ) → bit_of (suc (suc (suc (suc (suc k))))) b ≡ bit_of k (b / 32)
+bit_above b k =
     let from : 2 ^ suc (suc (suc (suc (suc k)))) ≡ 32 * 2 ^ k = simp pow-suc (omega arith) in
     rw (from, ← (div-div-eq-div-mul b 32 (2 ^ k)))
 
 -- in a byte with bit 4 replaced every other bit stands
-bit-stands : (n b k : ℕ) → n ≤ 1 → (k ≡ 4 → ⊥) → bit_of k (with_bit4 n b) ≡ bit_of k b
-bit-stands n b zero h other = omega arith
-bit-stands n b (suc zero) h other = omega arith
-bit-stands n b (suc (suc zero)) h other = omega arith
-bit-stands n b (suc (suc (suc zero))) h other = omega arith
-bit-stands n b (suc (suc (suc (suc zero)))) h other = absurd (other refl)
-bit-stands n b (suc (suc (suc (suc (suc k))))) h other =
-    let high : with_bit4 n b / 32 ≡ b / 32 = omega arith in bit-above (with_bit4 n b) k ∙ ap (λ (q : ℕ). bit_of k q) high ∙ sym (bit-above b k)
+bit_stands : (n b k : ℕ) → n ≤ 1 → (k ≡ 4 → ⊥) → bit_of k (with_bit4 n b) ≡ bit_of k b
+bit_stands n b zero h other = omega arith
+bit_stands n b (suc zero) h other = omega arith
+bit_stands n b (suc (suc zero)) h other = omega arith
+bit_stands n b (suc (suc (suc zero))) h other = omega arith
+bit_stands n b (suc (suc (suc (suc zero)))) h other = absurd (other refl)
+bit_stands n b (suc (suc (suc (suc (suc k))))) h other =
+    let high : with_bit4 n b / 32 ≡ b / 32 = omega arith in bit_above (with_bit4 n b) k ∙ ap (λ (q : ℕ). bit_of k q) high ∙ sym (bit_above b k)
 
 -- what bit 4 of a select becomes
-pub own-most : (t : Bool) (n : ℕ) (lun : Lun) → cond t (bit_of 4 n) (lun_number lun) ≤ 1
-own-most true n lun = omega arith
-own-most false n lun = lun_most lun
+pub own_most : (t : Bool) (n : ℕ) (lun : Lun) → cond t (bit_of 4 n) (lun_number lun) ≤ 1
+own_most true n lun = omega arith
+own_most false n lun = lun_most lun
 
 pub select_bits : SelectBits operations_of
 select_bits lun block l d =
-    let own : cond (bit 5 (action block)) (bit_of 4 (byte 11 block)) (lun_number lun) ≤ 1 = own-most (bit 5 (action block)) (byte 11 block) lun in (
+    let own : cond (bit 5 (action block)) (bit_of 4 (byte 11 block)) (lun_number lun) ≤ 1 = own_most (bit 5 (action block)) (byte 11 block) lun in (
       select_byte lun block,
       select_once lun block l d,
       (λ none. rw none (omega (arith, own), omega (arith, own), omega (arith, own))),
-      (λ chosen. rw chosen (λ k. bit-stands _ (byte 11 block) k own)),
+      (λ chosen. rw chosen (λ k. bit_stands _ (byte 11 block) k own)),
       omega (arith, own),
     )
 
@@ -145,10 +145,10 @@ put-bits {k} {block} {block'} h j = go (ltb j 8) (eqb j k) refl refl
     go false u e f = refl
 
 -- with bit k set, a block's list is made of the same other bits and bytes
-made-set : {k : ℕ} {block block' : List ℕ} (lun : Lun) (l : ℕ) (d : Direction) → Sets k block block'
+made_set : {k : ℕ} {block block' : List ℕ} (lun : Lun) (l : ℕ) (d : Direction) → Sets k block block'
     → operations_of lun block' l d ≡ made (put k (bits block)) (rest block) l (select_byte lun block') (transfer_byte (action block') d)
 unfolding operations_of arranged
-made-set {block' = block'} lun l d h i =
+made_set {block' = block'} lun l d h i =
     made (λ j. put-bits h j i) (λ j. h.elsewhere (3 + j) (λ e. omega arith) i) l (select_byte lun block') (transfer_byte (action block') d)
 
 -- only bit 5 changes the select's operand, and only bits 3, 4, 6 and 7 the transfer's
@@ -201,33 +201,33 @@ other m n h = eqb-false m n h
 
 pub poll_bit : PollBit operations_of
 poll_bit lun block block' l d h =
-    rw (made_of lun block l d, made-set lun l d h, select_kept lun h (other 5 2 refl), transfer_kept d h (other 3 2 refl) (other 4 2 refl) (other 6 2 refl) (other 7 2 refl), h.clear)
+    rw (made_of lun block l d, made_set lun l d h, select_kept lun h (other 5 2 refl), transfer_kept d h (other 3 2 refl) (other 4 2 refl) (other 6 2 refl) (other 7 2 refl), h.clear)
     (poll_first _ _ _ _ _ _ _)
 
 pub select_last : SelectLast operations_of
 select_last lun block block' l d h =
-    rw (made_of lun block l d, made-set lun l d h, select_kept lun h (other 5 1 refl), transfer_kept d h (other 3 1 refl) (other 4 1 refl) (other 6 1 refl) (other 7 1 refl), h.clear)
+    rw (made_of lun block l d, made_set lun l d h, select_kept lun h (other 5 1 refl), transfer_kept d h (other 3 1 refl) (other 4 1 refl) (other 6 1 refl) (other 7 1 refl), h.clear)
     ((λ reading. rw reading (read_alike _ _ _ _ _ _ _ _ _)), (λ writing. (select_byte lun block, rw writing (select_moves _ _ _ _ _ _))))
 
 -- the select's operand with bit 5 clear, and with it set
-with-bit : (block : List ℕ) (n : ℕ) → with_bit4 n (cond (selected block 6) (byte 11 block) 0xA0) ≡ device block + 16 * n
-with-bit block n = go (selected block 6)
+with_bit : (block : List ℕ) (n : ℕ) → with_bit4 n (cond (selected block 6) (byte 11 block) 0xA0) ≡ device block + 16 * n
+with_bit block n = go (selected block 6)
   where
     go : (t : Bool) → with_bit4 n (cond t (byte 11 block) 0xA0) ≡ cond t (byte 11 block - 16 * bit_of 4 (byte 11 block)) 0xA0 + 16 * n
     go true = refl
     go false = refl
 
 select_clear : (lun : Lun) (block : List ℕ) → bit_of 5 (action block) ≡ 0 → select_byte lun block ≡ device block + 16 * lun_number lun
-select_clear lun block clear = rw clear (with-bit block (lun_number lun))
+select_clear lun block clear = rw clear (with_bit block (lun_number lun))
 
 select_set : (lun : Lun) (block : List ℕ) → bit_of 5 (action block) ≡ 1 → select_byte lun block ≡ device block + 16 * bit_of 4 (byte 11 block)
-select_set lun block set = rw set (with-bit block (bit_of 4 (byte 11 block)))
+select_set lun block set = rw set (with_bit block (bit_of 4 (byte 11 block)))
 
 pub select_bit : SelectBit operations_of
 select_bit lun block block' l d h =
     let now : select_byte lun block' ≡ device block + 16 * bit_of 4 (byte 11 block) =
     select_set lun block' h.set ∙ rw (h.elsewhere 3 (λ e. omega arith), h.elsewhere 11 (λ e. omega arith)) in
-    rw (made_of lun block l d, made-set lun l d h, transfer_kept d h (other 3 5 refl) (other 4 5 refl) (other 6 5 refl) (other 7 5 refl))
+    rw (made_of lun block l d, made_set lun l d h, transfer_kept d h (other 3 5 refl) (other 4 5 refl) (other 6 5 refl) (other 7 5 refl))
     (rw (select_clear lun block h.clear, now) (select_changes _ _ _ _ _ _ _ _ _))
 
 pub lun_bit : LunBit operations_of
@@ -245,7 +245,7 @@ weighs : (k n : ℕ) → ((a : ℕ → ℕ) → made (put k a) ≡ made a) → (
     → ((block block' : List ℕ) (d : Direction) → Sets k block block' → transfer_byte (action block') d ≡ transfer_byte (action block) d + n)
     → Weighs operations_of k n
 weighs k n same five more lun block block' l d h =
-    rw (made_of lun block l d, made-set lun l d h ∙ (λ i. same (bits block) i (rest block) l (select_kept lun h five i) (more block block' d h i)))
+    rw (made_of lun block l d, made_set lun l d h ∙ (λ i. same (bits block) i (rest block) l (select_kept lun h five i) (more block block' d h i)))
     ((λ reading. rw reading (read_alike _ _ _ _ _ _ _ _ _)), (λ writing. (transfer_byte (action block) d, rw writing (transfer_changes _ _ _ _ _ _ _ _))))
 
 pub transfer_bits : TransferBits operations_of
@@ -270,9 +270,9 @@ transfer_needs_length lun block l d writing positive =
 -- ---- how many operations
 
 -- a test, a bit, a part and an arrangement, counted
-one-most : (t : Bool) → one t ≤ 1
-one-most true = omega arith
-one-most false = omega arith
+one_most : (t : Bool) → one t ≤ 1
+one_most true = omega arith
+one_most false = omega arith
 
 one_bit : (n : ℕ) → n < 2 → one (eqb n 1) ≡ n
 one_bit n h = go (eqb n 1) refl
@@ -290,15 +290,15 @@ length-picks block o [] = refl
 length-picks block o (r ∷ rs) =
     rw (length-append, length-only, length-picks block o rs, one_bit (bit_of r (byte 3 block)) (omega arith))
 
-length-read : (z : Bool) (p w v r m : List Operation) (s : ℕ) → length (arranged true z p w v r m s) ≡ length p + 1 + length r
+length_read : (z : Bool) (p w v r m : List Operation) (s : ℕ) → length (arranged true z p w v r m s) ≡ length p + 1 + length r
 unfolding arranged
-length-read z p w v r m s = simp length-append (omega arith)
+length_read z p w v r m s = simp length-append (omega arith)
 
-length-written : (z : Bool) (p w v r m : List Operation) (s : ℕ)
+length_written : (z : Bool) (p w v r m : List Operation) (s : ℕ)
     → length (arranged false z p w v r m s) ≡ length p + 2 + (length w + length v) + length m
 unfolding arranged
-length-written true p w v r m s = simp length-append (omega arith)
-length-written false p w v r m s = simp length-append (omega arith)
+length_written true p w v r m s = simp length-append (omega arith)
+length_written false p w v r m s = simp length-append (omega arith)
 
 pub counted : Counted operations_of
 counted lun block l d =
@@ -306,9 +306,9 @@ counted lun block l d =
     let write : ℕ → Operation = λ r. Write r (content block r) in
     let low : List ℕ = 0 ∷ 1 ∷ 2 ∷ 3 ∷ 4 ∷ 5 ∷ [] in
     rw (made_of lun block l d) (
-      (λ reading. rw (reading, length-read, length-only polls, length-picks block Read (low ++ 6 ∷ 7 ∷ [])) (refl, omega (arith, one-most polls))),
-      (λ writing. rw (writing, length-written, length-only polls, length-only (ltb 0 l), length-picks block write low, length-picks block write (7 ∷ []))
-          (omega arith, omega (arith, one-most polls, one-most (ltb 0 l)))),
+      (λ reading. rw (reading, length_read, length-only polls, length-picks block Read (low ++ 6 ∷ 7 ∷ [])) (refl, omega (arith, one_most polls))),
+      (λ writing. rw (writing, length_written, length-only polls, length-only (ltb 0 l), length-picks block write low, length-picks block write (7 ∷ []))
+          (omega arith, omega (arith, one_most polls, one_most (ltb 0 l)))),
     )
 
 pub listed : Listed operations_of

@@ -26,8 +26,8 @@ use Rattle.rules.proofs.Checks.{decides, sole, passed}
 use Rattle.rules.proofs.Rows.{in_parts}
 
 -- four bytes are the four of their number
-four-made : (a b c d : ℕ) → a < 256 → b < 256 → c < 256 → four (a + 256 * b + 65536 * (c + 256 * d)) ≡ a ∷ b ∷ c ∷ d ∷ []
-four-made a b c d x y z =
+four_made : (a b c d : ℕ) → a < 256 → b < 256 → c < 256 → four (a + 256 * b + 65536 * (c + 256 * d)) ≡ a ∷ b ∷ c ∷ d ∷ []
+four_made a b c d x y z =
     let e : (a + 256 * b + 65536 * (c + 256 * d)) / 256 ≡ b + 256 * (c + 256 * d) = omega arith in
     let f : (b + 256 * (c + 256 * d)) / 256 ≡ c + 256 * d = omega arith in
     let g : (c + 256 * d) / 256 ≡ d = omega arith in
@@ -36,45 +36,45 @@ four-made a b c d x y z =
     let j : (c + 256 * d) % 256 ≡ c = omega arith in
     rw (e, f, g, h, i, j)
 
-long-made : (p : List ℕ) (k : ℕ) → Bytes p → four (long k p) ≡ byte k p ∷ byte (k + 1) p ∷ byte (k + 2) p ∷ byte (k + 2 + 1) p ∷ []
-long-made p k h = four-made (byte k p) (byte (k + 1) p) (byte (k + 2) p) (byte (k + 2 + 1) p) (h k) (h (k + 1)) (h (k + 2))
+long_made : (p : List ℕ) (k : ℕ) → Bytes p → four (long k p) ≡ byte k p ∷ byte (k + 1) p ∷ byte (k + 2) p ∷ byte (k + 2 + 1) p ∷ []
+long_made p k h = four_made (byte k p) (byte (k + 1) p) (byte (k + 2) p) (byte (k + 2 + 1) p) (h k) (h (k + 1)) (h (k + 2))
 
 -- what a valid packet is made of
-valid-made : (p : List ℕ) → Bytes p → valid p ≡ true
+valid_made : (p : List ℕ) → Bytes p → valid p ≡ true
     → (length p ≡ 31) × (p ≡ wrapper (long 4 p) (long 8 p) (byte 12 p) (byte 13 p) (byte 14 p) (block_of p))
 unfolding valid
-valid-made p h v =
+valid_made p h v =
     let e = (and-eq-true_iff (eqb (length p) 31) _).0 v in
     let n : length p ≡ 31 = eqb-true (length p) 31 e.0 in
     let signature : four (long 0 p) ≡ four 0x43425355 = ap four (eqb-true (long 0 p) 0x43425355 e.1) in
-    let first : byte 0 p ∷ byte 1 p ∷ byte 2 p ∷ byte 3 p ∷ [] ≡ four 0x43425355 = sym (long-made p 0 h) ∙ signature in (
+    let first : byte 0 p ∷ byte 1 p ∷ byte 2 p ∷ byte 3 p ∷ [] ≡ four 0x43425355 = sym (long_made p 0 h) ∙ signature in (
       n,
       in_parts 0 15 p (omega arith)
-          ∙ λ i. first i ++ sym (long-made p 4 h) i ++ sym (long-made p 8 h) i ++ byte 12 p ∷ byte 13 p ∷ byte 14 p ∷ block_of p,
+          ∙ λ i. first i ++ sym (long_made p 4 h) i ++ sym (long_made p 8 h) i ++ byte 12 p ∷ byte 13 p ∷ byte 14 p ∷ block_of p,
     )
 
 -- what is laid out as a packet is valid
-laid-out-valid : (p : List ℕ) → LaidOut p → valid p ≡ true
+laid_out_valid : (p : List ℕ) → LaidOut p → valid p ≡ true
 unfolding valid
-laid-out-valid p (tag, l, flags, lun, size, field, sixteen, e) = rw (e, sixteen)
+laid_out_valid p (tag, l, flags, lun, size, field, sixteen, e) = rw (e, sixteen)
 
 pub damage_is_told : DamageIsTold rules
 unfolding step packet_answer
 damage_is_told w p room h = (
   λ a.
-      let made = valid-made p h (not-false (valid p) (decides 14 checks a).1.1.1.0) in
+      let made = valid_made p h (not-false (valid p) (decides 14 checks a).1.1.1.0) in
       (long 4 p, long 8 p, byte 12 p, byte 13 p, byte 14 p, block_of p, rw (length-drop, made.0), made.1),
-  λ a l. false≢true (rw (laid-out-valid p l) at (sole 13 (not (valid p)) (drop 4 checks) refl (decides 13 checks a).1.1.1)),
+  λ a l. false≢true (rw (laid_out_valid p l) at (sole 13 (not (valid p)) (drop 4 checks) refl (decides 13 checks a).1.1.1)),
 )
   where
     checks : List Check
     checks = packet_checks w.bridge p (length (operations_for (signature_of w.bytes) p)) room
 
 -- what an accepted packet has passed
-packet-passed : (w : World) (p : List ℕ) (room : ℕ) → (step w (Packet p room)).answer ≡ 0
+packet_passed : (w : World) (p : List ℕ) (room : ℕ) → (step w (Packet p room)).answer ≡ 0
     → (valid p ≡ true) × (meaningful w.bridge.dock.drives (command_of p) ≡ true)
 unfolding step packet_answer
-packet-passed w p room a =
+packet_passed w p room a =
     let k = passed (packet_checks w.bridge p (length (operations_for (signature_of w.bytes) p)) room) refl a in
     (not-false (valid p) k.1.1.1.0, not-false (meaningful w.bridge.dock.drives (command_of p)) k.1.1.1.1.0)
 
@@ -117,20 +117,20 @@ meaning drives p m =
     flags false e false f h = absurd (false≢true h)
 
 -- an accepted packet is for a drive that the dock holds
-pub drive-held : (w : World) (p : List ℕ) (room : ℕ) → answer w (Packet p room) ≡ 0
+pub drive_held : (w : World) (p : List ℕ) (room : ℕ) → answer w (Packet p room) ≡ 0
     → (byte 13 p ≡ lun_number (lun_of (command_of p))) × (lun_number (lun_of (command_of p)) < drive_count w.bridge.dock.drives)
 unfolding step
-drive-held w p room a = let m = meaning w.bridge.dock.drives p (packet-passed w p room a).1 in (m.1, m.4)
+drive_held w p room a = let m = meaning w.bridge.dock.drives p (packet_passed w p room a).1 in (m.1, m.4)
 
 -- .. so it was made of its block and what is behind it
-packet-made : (w : World) (p : List ℕ) (room : ℕ) → Bytes p → (step w (Packet p room)).answer ≡ 0
+packet_made : (w : World) (p : List ℕ) (room : ℕ) → Bytes p → (step w (Packet p room)).answer ≡ 0
     → (let block = take (byte 14 p) (block_of p) in
     let filling = drop (byte 14 p) (block_of p) in
     (length block ≡ byte 14 p) × Fills block filling × (p ≡ packet (drive_of (byte 13 p)) (long 4 p) (long 8 p) (said p) block filling))
     × (lun_number (drive_of (byte 13 p)) < drive_count w.bridge.dock.drives)
-packet-made w p room h a =
-    let k = packet-passed w p room a in
-    let v = valid-made p h k.0 in
+packet_made w p room h a =
+    let k = packet_passed w p room a in
+    let v = valid_made p h k.0 in
     let m = meaning w.bridge.dock.drives p k.1 in
     let n : length (block_of p) ≡ 16 = rw (length-drop, v.0) in
     let most = m.3 in
@@ -145,12 +145,12 @@ packet-made w p room h a =
 
 pub accepted_was_made : AcceptedWasMade rules
 accepted_was_made w p room h a =
-    let made = packet-made w p room h a in
+    let made = packet_made w p room h a in
     (drive_of (byte 13 p), long 4 p, long 8 p, said p, take (byte 14 p) (block_of p), drop (byte 14 p) (block_of p), made.1, made.0.1, made.0.2)
 
 -- a byte is made of its bits
-bit-read : (k b : ℕ) → one (bit k b) ≡ bit_of k b
-bit-read k b = go (eqb (bit_of k b) 1) refl
+bit_read : (k b : ℕ) → one (bit k b) ≡ bit_of k b
+bit_read k b = go (eqb (bit_of k b) 1) refl
   where
     go : (t : Bool) → eqb (bit_of k b) 1 ≡ t → one t ≡ bit_of k b
     go true e = sym (eqb-true (bit_of k b) 1 e)
@@ -163,13 +163,13 @@ halved b n = rw (← (div-div-eq-div-mul b n 2)) (omega arith)
 nibble : (q r s t u a b c d : ℕ) → q ≡ a + 2 * r → r ≡ b + 2 * s → s ≡ c + 2 * t → t ≡ d + 2 * u → q ≡ a + 2 * b + 4 * c + 8 * d + 16 * u
 nibble q r s t u a b c d e f g h = omega arith
 
-eight-made : (b : ℕ) → b < 256 → eight (λ k. bit k b) ≡ b
-eight-made b h =
+eight_made : (b : ℕ) → b < 256 → eight (λ k. bit k b) ≡ b
+eight_made b h =
     let all : b / 1 ≡ b = omega arith in
     let none : b / 256 ≡ 0 = omega arith in
     let low = nibble (b / 1) (b / 2) (b / 4) (b / 8) (b / 16) _ _ _ _ (halved b 1) (halved b 2) (halved b 4) (halved b 8) in
     let high = nibble (b / 16) (b / 32) (b / 64) (b / 128) (b / 256) _ _ _ _ (halved b 16) (halved b 32) (halved b 64) (halved b 128) in
-    simp bit-read (sums b (b / 1) (b / 16) (b / 256) _ _ _ _ _ _ _ _ all low high none)
+    simp bit_read (sums b (b / 1) (b / 16) (b / 256) _ _ _ _ _ _ _ _ all low high none)
   where
     sums : (n q r s a b c d e f g h : ℕ) → q ≡ n → q ≡ a + 2 * b + 4 * c + 8 * d + 16 * r → r ≡ e + 2 * f + 4 * g + 8 * h + 16 * s → s ≡ 0
         → a + 2 * b + 4 * c + 8 * d + 16 * e + 32 * f + 64 * g + 128 * h ≡ n
@@ -202,7 +202,7 @@ block_made : (block : List ℕ) (signature : ℕ) → Bytes block → length blo
     → block ≡ pass_through signature (λ k. bit k (byte 2 block)) (λ k. bit k (byte 3 block)) (byte 4 block) (take 8 (drop 5 block))
 block_made block signature h n e f g i j =
     in_parts 0 5 block (omega arith)
-    ∙ λ x. e x ∷ f x ∷ sym (eight-made (byte 2 block) (h 2)) x ∷ sym (eight-made (byte 3 block) (h 3)) x ∷ byte 4 block ∷ contents x
+    ∙ λ x. e x ∷ f x ∷ sym (eight_made (byte 2 block) (h 2)) x ∷ sym (eight_made (byte 3 block) (h 3)) x ∷ byte 4 block ∷ contents x
   where
     tail : drop 13 block ≡ 0 ∷ 0 ∷ 0 ∷ []
     tail = in_parts 13 3 block (omega arith) ∙ λ x. g x ∷ i x ∷ j x ∷ drop_of_length-le block {i = 16} (omega arith) x
@@ -240,9 +240,9 @@ asked p a r =
 pub begun_was_made : BegunWasMade rules
 begun_was_made w p room h o =
     let k = begun w p room o in
-    let made = packet-made w p room h k.0 in
+    let made = packet_made w p room h k.0 in
     let has = recognised_has (signature_of w.bytes) (long 8 p) (direction_of (command_of p)) (block_of p) (byte 14 p) k.1 in
-    let n : length (block_of p) ≡ 16 = rw (length-drop, (valid-made p h (packet-passed w p room k.0).0).0) in
+    let n : length (block_of p) ≡ 16 = rw (length-drop, (valid_made p h (packet_passed w p room k.0).0).0) in
     let block : List ℕ = block_of p in
     let read = block_made block (signature_of w.bytes) (λ j. rw get_or-drop (h (15 + j))) n has.1 has.2 has.3 has.4 has.5 in
     let all : take (byte 14 p) block ≡ block = rw has.0 (take_all 16 block (omega arith)) in

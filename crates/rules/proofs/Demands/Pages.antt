@@ -21,10 +21,10 @@ use Rattle.rules.specs.Step.{Event, BusReset, Control, Packet, Report, StatusReq
 use Rattle.rules.specs.Demands.Coherence.{page_in}
 use Rattle.rules.specs.Demands.Requests.{is_write}
 use Rattle.rules.specs.Demands.Pages.{NumbersAreTaken, MultiplesTakeMore, paged, SmallerPagesRefuseMore, LegalUnder256, RefusedBy32, OnePageIsTouched}
-use Rattle.rules.proofs.Checks.{stricter, request-passed, accepted-write}
+use Rattle.rules.proofs.Checks.{stricter, request_passed, accepted_write}
 use Rattle.rules.proofs.Rows.{over_outside}
-use Rattle.rules.proofs.Demands.Requests.{is-load, no-other-writes}
-use Rattle.rules.proofs.Pages.{divides_256, in_32s, one-page_lem, some_bytes}
+use Rattle.rules.proofs.Demands.Requests.{is_load, no_other_writes}
+use Rattle.rules.proofs.Pages.{divides_256, in_32s, one_page_lem, some_bytes}
 
 pub numbers_are_taken : NumbersAreTaken page_of
 unfolding page_of
@@ -104,11 +104,11 @@ touched : (w : World) (setup host : List ℕ) (room j : ℕ) → request_of (set
     → answer w (Control setup host room) ≡ 0
     → (byte j (memory_done w.memory (Control setup host room)) ≡ byte j w.memory → ⊥) → j / page_in w ≡ word 4 setup / page_in w
 touched w setup host room j load a changed =
-    go (in_memory (word 2 setup)) refl (rw load at (request-passed (seen_of w) w.memory setup (length host) room a).1.1.1.1.1.1.1.0)
+    go (in_memory (word 2 setup)) refl (rw load at (request_passed (seen_of w) w.memory setup (length host) room a).1.1.1.1.1.1.1.0)
     (rw load at changed)
   where
     long : length host ≡ word 6 setup
-    long = (accepted-write (seen_of w) w.memory setup (length host) room load a).2
+    long = (accepted_write (seen_of w) w.memory setup (length host) room load a).2
 
     start : ℕ
     start = word 4 setup
@@ -122,25 +122,25 @@ touched w setup host room j load a changed =
         within false f u g = absurd (changed (over_outside w.memory start host j (inl (leb-false start j f))))
         within true f false g = absurd (changed (over_outside w.memory start host j (inr (ltb-false j _ g))))
         within true f true g =
-            one-page_lem (page_in w) start (word 6 setup) j (some_bytes w.bridge.dock.page) (not-false _ pages) (leb-true start j f)
+            one_page_lem (page_in w) start (word 6 setup) j (some_bytes w.bridge.dock.page) (not-false _ pages) (leb-true start j f)
             (let l = ltb-true j _ g in omega (arith, long))
 
-memory-after : (w : World) (e : Event) → (step w e).next.memory ≡ cond (done (answer w e)) (memory_done w.memory e) w.memory
+memory_after : (w : World) (e : Event) → (step w e).next.memory ≡ cond (done (answer w e)) (memory_done w.memory e) w.memory
 unfolding step
-memory-after w e = refl
+memory_after w e = refl
 
 unwritten : (w : World) (e : Event) (j : ℕ) → is_write e ≡ false → (byte j (step w e).next.memory ≡ byte j w.memory → ⊥) → ⊥
-unwritten w e j h changed = changed (ap (byte j) (no-other-writes w e h).1)
+unwritten w e j h changed = changed (ap (byte j) (no_other_writes w e h).1)
 
-pub one-page-is-touched : OnePageIsTouched rules
-one-page-is-touched w BusReset j k p q = absurd (unwritten w BusReset j refl p)
-one-page-is-touched w (Control setup host room) j k p q = at j p ∙ sym (at k q)
+pub one_page_is_touched : OnePageIsTouched rules
+one_page_is_touched w BusReset j k p q = absurd (unwritten w BusReset j refl p)
+one_page_is_touched w (Control setup host room) j k p q = at j p ∙ sym (at k q)
   where
     e : Event
     e = Control setup host room
 
     at : (j : ℕ) → (byte j (step w e).next.memory ≡ byte j w.memory → ⊥) → j / page_in w ≡ word 4 setup / page_in w
-    at j p = go (is_write e) refl (done (answer w e)) refl (subst (λ (m : List ℕ). byte j m ≡ byte j w.memory → ⊥) (memory-after w e) p)
+    at j p = go (is_write e) refl (done (answer w e)) refl (subst (λ (m : List ℕ). byte j m ≡ byte j w.memory → ⊥) (memory_after w e) p)
       where
         go : (t : Bool) → is_write e ≡ t → (u : Bool) → done (answer w e) ≡ u
             → (byte j (cond u (memory_done w.memory e) w.memory) ≡ byte j w.memory → ⊥) → j / page_in w ≡ word 4 setup / page_in w
@@ -148,9 +148,9 @@ one-page-is-touched w (Control setup host room) j k p q = at j p ∙ sym (at k q
         go true h false d changed = absurd (changed refl)
         go true h true d changed =
             let pair = (and-eq-true_iff (eqb (byte 0 setup) 0x40) (eqb (byte 1 setup) 0x01)).0 h in
-            touched w setup host room j (is-load (setup_of setup) (eqb-true _ _ pair.0) (eqb-true _ _ pair.1)) (eqb-true _ 0 d) changed
-one-page-is-touched w (Packet bytes room) j k p q = absurd (unwritten w (Packet bytes room) j refl p)
-one-page-is-touched w (Report direction failed amount) j k p q = absurd (unwritten w (Report direction failed amount) j refl p)
-one-page-is-touched w (StatusRequest room) j k p q = absurd (unwritten w (StatusRequest room) j refl p)
-one-page-is-touched w (Burst bytes) j k p q = absurd (unwritten w (Burst bytes) j refl p)
-one-page-is-touched w (EndMark room) j k p q = absurd (unwritten w (EndMark room) j refl p)
+            touched w setup host room j (is_load (setup_of setup) (eqb-true _ _ pair.0) (eqb-true _ _ pair.1)) (eqb-true _ 0 d) changed
+one_page_is_touched w (Packet bytes room) j k p q = absurd (unwritten w (Packet bytes room) j refl p)
+one_page_is_touched w (Report direction failed amount) j k p q = absurd (unwritten w (Report direction failed amount) j refl p)
+one_page_is_touched w (StatusRequest room) j k p q = absurd (unwritten w (StatusRequest room) j refl p)
+one_page_is_touched w (Burst bytes) j k p q = absurd (unwritten w (Burst bytes) j refl p)
+one_page_is_touched w (EndMark room) j k p q = absurd (unwritten w (EndMark room) j refl p)

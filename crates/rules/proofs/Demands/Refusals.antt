@@ -12,21 +12,21 @@ use Rattle.rules.specs.Demands.Refusals.{judges_packet, Refusals, numbers, among
 use Rattle.rules.proofs.Checks.{answer_has, in_room, request_undamaged}
 
 -- a refusal keeps what is held, but for a packet and an end mark
-refused-held : (w : World) (e : Event) → done (answer w e) ≡ false → held_after w e ≡ cond (judges_packet e) [] w.held
+refused_held : (w : World) (e : Event) → done (answer w e) ≡ false → held_after w e ≡ cond (judges_packet e) [] w.held
 unfolding change
-refused-held w BusReset d = absurd (true≢false d)
-refused-held w (Control setup host room) d = rw (d, request_undamaged)
-refused-held w (Packet p room) d = refl
-refused-held w (Report direction failed amount) d = refl
-refused-held w (StatusRequest room) d = refl
-refused-held w (Burst bytes) d = absurd (true≢false d)
-refused-held w (EndMark room) d = refl
+refused_held w BusReset d = absurd (true≢false d)
+refused_held w (Control setup host room) d = rw (d, request_undamaged)
+refused_held w (Packet p room) d = refl
+refused_held w (Report direction failed amount) d = refl
+refused_held w (StatusRequest room) d = refl
+refused_held w (Burst bytes) d = absurd (true≢false d)
+refused_held w (EndMark room) d = refl
 
 pub refusals : Refusals rules
 unfolding step change
 refusals w e h =
     let d = ne_eqb (answer w e) 0 h in
-    (rw d, in_room w e d, rw d, rw (refused-held w e d, d))
+    (rw d, in_room w e d, rw d, rw (refused_held w e d, d))
 
 pub numbered : Numbered rules
 unfolding step change request_answer packet_answer report_answer status_answer

@@ -17,9 +17,9 @@ use Rattle.rules.specs.Requests.{Known, setup_of, request_of, needs_configuratio
 use Rattle.rules.specs.Answers.{seen_of, request_answer, packet_answer, report_answer, status_answer}
 use Rattle.rules.specs.Step.{Event, BusReset, Control, Packet, Report, StatusRequest, Burst, EndMark, answer, bytes_done, memory_done, done, change, step, rules}
 use Rattle.rules.specs.Demands.Requests.{WholeFields, Unconfigured, Holds, ExactWrites, NoOtherWrites, ExactReads}
-use Rattle.rules.proofs.Checks.{request_has, accepted-write}
+use Rattle.rules.proofs.Checks.{request_has, accepted_write}
 use Rattle.rules.proofs.Rows.{over_pastes}
-use Rattle.rules.proofs.Replies.{read-inside}
+use Rattle.rules.proofs.Replies.{read_inside}
 
 pub whole : (x : ℕ) → x % 256 + 256 * (x / 256) ≡ x
 whole x = omega arith
@@ -45,9 +45,9 @@ unconfigured w (EndMark room) c g = rw c
 -- ---- exact writes
 
 -- the pair 40, 01 names LOAD_CONFIG_DATA
-pub is-load : (s : Setup) → s.kind ≡ 0x40 → s.code ≡ 0x01 → request_of s ≡ Known LoadConfigData
+pub is_load : (s : Setup) → s.kind ≡ 0x40 → s.code ≡ 0x01 → request_of s ≡ Known LoadConfigData
 unfolding request_of
-is-load s k c = rw (k, c)
+is_load s k c = rw (k, c)
 
 -- byte k of a store into which n bytes were pasted
 pasted : (store host : List ℕ) (start n : ℕ) → start + n ≤ length store → length host ≡ n → Holds true start n host store (paste store start host n)
@@ -115,16 +115,16 @@ pub exact_writes : ExactWrites rules
 unfolding step change
 exact_writes w setup host room sixteen i a =
     let pair = (and-eq-true_iff (eqb (byte 0 setup) 0x40) (eqb (byte 1 setup) 0x01)).0 i in
-    let load : request_of (setup_of setup) ≡ Known LoadConfigData = is-load (setup_of setup) (eqb-true _ _ pair.0) (eqb-true _ _ pair.1) in
-    let p = accepted-write (seen_of w) w.memory setup (length host) room load a in
+    let load : request_of (setup_of setup) ≡ Known LoadConfigData = is_load (setup_of setup) (eqb-true _ _ pair.0) (eqb-true _ _ pair.1) in
+    let p = accepted_write (seen_of w) w.memory setup (length host) room load a in
     rw (a, load)
     (held (size_of w.memory) (word 2 setup) (word 4 setup) (word 6 setup) w.bytes w.memory host sixteen (omega arith) p.2 p.0 p.1)
 
 -- ---- no other writes
 
 -- any other pair names another request
-not-load : (s : Setup) → (eqb s.kind 0x40 && eqb s.code 0x01) ≡ false → is_a LoadConfigData (request_of s) ≡ false
-not-load s h =
+not_load : (s : Setup) → (eqb s.kind 0x40 && eqb s.code 0x01) ≡ false → is_a LoadConfigData (request_of s) ≡ false
+not_load s h =
     not-true _ (request_has (λ kind code. not (eqb kind 0x40 && eqb code 0x01)) (λ r. not (is_a LoadConfigData r)) s (rw h) refl)
 
 -- an event that, done, keeps both places keeps them whatever its answer
@@ -137,16 +137,16 @@ untouched w e b m = (kept (done (answer w e)) b, kept (done (answer w e)) m)
     kept true h = h
     kept false h = refl
 
-pub no-other-writes : NoOtherWrites rules
-no-other-writes w BusReset h = untouched w BusReset refl refl
-no-other-writes w (Control setup host room) h =
-    let r : is_a LoadConfigData (request_of (setup_of setup)) ≡ false = not-load (setup_of setup) h in
+pub no_other_writes : NoOtherWrites rules
+no_other_writes w BusReset h = untouched w BusReset refl refl
+no_other_writes w (Control setup host room) h =
+    let r : is_a LoadConfigData (request_of (setup_of setup)) ≡ false = not_load (setup_of setup) h in
     untouched w (Control setup host room) (rw r) (rw r)
-no-other-writes w (Packet p room) h = untouched w (Packet p room) refl refl
-no-other-writes w (Report direction failed amount) h = untouched w (Report direction failed amount) refl refl
-no-other-writes w (StatusRequest room) h = untouched w (StatusRequest room) refl refl
-no-other-writes w (Burst bytes) h = untouched w (Burst bytes) refl refl
-no-other-writes w (EndMark room) h = untouched w (EndMark room) refl refl
+no_other_writes w (Packet p room) h = untouched w (Packet p room) refl refl
+no_other_writes w (Report direction failed amount) h = untouched w (Report direction failed amount) refl refl
+no_other_writes w (StatusRequest room) h = untouched w (StatusRequest room) refl refl
+no_other_writes w (Burst bytes) h = untouched w (Burst bytes) refl refl
+no_other_writes w (EndMark room) h = untouched w (EndMark room) refl refl
 
 -- ---- exact reads
 
@@ -160,7 +160,7 @@ unfolding step change
 exact_reads w setup host room sixteen kind code a =
     let read : request_of (setup_of setup) ≡ Known ReadConfigData = is_read (setup_of setup) kind code in
     let store : List ℕ = store_of (word 2 setup) w in
-    let fits : word 4 setup + word 6 setup ≤ length store = read-inside w setup (length host) room sixteen a read in
+    let fits : word 4 setup + word 6 setup ≤ length store = read_inside w setup (length host) room sixteen a read in
     rw (a, read) (
       length-take-le (word 6 setup) (drop (word 4 setup) store) (simp length-drop (omega arith)),
       λ k l. get_or-take (word 6 setup) (drop (word 4 setup) store) k 0 l ∙ get_or-drop (word 4 setup) store k 0,

@@ -16,18 +16,18 @@ use Rattle.rules.specs.Answers.{seen_of, request_answer}
 use Rattle.rules.specs.Step.{Event, BusReset, Control, Packet, Report, StatusRequest, Burst, EndMark, answer, bytes_done, done, change, step, rules, after}
 use Rattle.rules.specs.Demands.Requests.{is_write}
 use Rattle.rules.specs.Demands.Settings.{SettingsAreRead, OnlySettings, SettingsAreAsWritten, SavedIsRestored}
-use Rattle.rules.proofs.Checks.{accepted-write}
-use Rattle.rules.proofs.Rows.{over-length, over-all}
-use Rattle.rules.proofs.Demands.Requests.{is-load, no-other-writes}
+use Rattle.rules.proofs.Checks.{accepted_write}
+use Rattle.rules.proofs.Rows.{over-length, over_all}
+use Rattle.rules.proofs.Demands.Requests.{is_load, no_other_writes}
 
 -- of fourteen bytes, all stand at their addresses
 pub addressed : (settings : List ℕ) → length settings ≡ 14 → over power_on_bytes 2 settings ≡ 0 ∷ 0 ∷ settings
 unfolding over
-addressed settings h = ap (λ (l : List ℕ). 0 ∷ 0 ∷ l) (over-all (drop 2 power_on_bytes) settings h)
+addressed settings h = ap (λ (l : List ℕ). 0 ∷ 0 ∷ l) (over_all (drop 2 power_on_bytes) settings h)
 
-pub only-settings : OnlySettings rules
+pub only_settings : OnlySettings rules
 unfolding over
-only-settings start memory = (refl, refl, refl, refl)
+only_settings start memory = (refl, refl, refl, refl)
 
 pub settings_are_read : SettingsAreRead rules
 unfolding step change request_of request_answer address
@@ -54,7 +54,7 @@ module _ (w : World) (setup host : List ℕ) (room : ℕ) (load : request_of (se
   behind : in_memory (word 2 setup) ≡ false → 2 ≤ word 4 setup
   unfolding address
   behind e =
-      let inside = rw e at (accepted-write (seen_of w) w.memory setup (length host) room load a).1 in
+      let inside = rw e at (accepted_write (seen_of w) w.memory setup (length host) room load a).1 in
       let start = ((and-eq-true_iff (leb 2 (word 4 setup) && leb (word 4 setup) 15) (leb (word 4 setup + word 6 setup) 16)).0 inside).0 in
       leb-true 2 (word 4 setup) ((and-eq-true_iff (leb 2 (word 4 setup)) (leb (word 4 setup) 15)).0 start).0
 
@@ -65,28 +65,28 @@ module _ (w : World) (setup host : List ℕ) (room : ℕ) (load : request_of (se
       go true e = refl
       go false e = first_two w.bytes (word 4 setup) host (behind e)
 
-  step-keeps-write : take 2 (step w (Control setup host room)).next.bytes ≡ take 2 w.bytes
+  step_keeps_write : take 2 (step w (Control setup host room)).next.bytes ≡ take 2 w.bytes
   unfolding step
-  step-keeps-write = rw a (ap (λ (r : Named). take 2 (bytes_after r (setup_of setup) host w.bytes)) load ∙ write_keeps)
+  step_keeps_write = rw a (ap (λ (r : Named). take 2 (bytes_after r (setup_of setup) host w.bytes)) load ∙ write_keeps)
 
-keeps-two : (w : World) (e : Event) → take 2 (step w e).next.bytes ≡ take 2 w.bytes
+keeps_two : (w : World) (e : Event) → take 2 (step w e).next.bytes ≡ take 2 w.bytes
 unfolding step
-keeps-two w BusReset = refl
-keeps-two w (Control setup host room) = go (is_write (Control setup host room)) refl (done (answer w (Control setup host room))) refl
+keeps_two w BusReset = refl
+keeps_two w (Control setup host room) = go (is_write (Control setup host room)) refl (done (answer w (Control setup host room))) refl
   where
     go : (t : Bool) → is_write (Control setup host room) ≡ t → (u : Bool) → done (answer w (Control setup host room)) ≡ u
         → take 2 (step w (Control setup host room)).next.bytes ≡ take 2 w.bytes
-    go false e u f = ap (take 2) (no-other-writes w (Control setup host room) e).0
+    go false e u f = ap (take 2) (no_other_writes w (Control setup host room) e).0
     go true e false f = rw f refl
     go true e true f =
         let pair = (and-eq-true_iff (eqb (byte 0 setup) 0x40) (eqb (byte 1 setup) 0x01)).0 e in
-        step-keeps-write w setup host room (is-load (setup_of setup) (eqb-true (byte 0 setup) 0x40 pair.0) (eqb-true (byte 1 setup) 0x01 pair.1))
+        step_keeps_write w setup host room (is_load (setup_of setup) (eqb-true (byte 0 setup) 0x40 pair.0) (eqb-true (byte 1 setup) 0x01 pair.1))
         (eqb-true (answer w (Control setup host room)) 0 f)
-keeps-two w (Packet p room) = ap (take 2) (no-other-writes w (Packet p room) refl).0
-keeps-two w (Report direction failed amount) = ap (take 2) (no-other-writes w (Report direction failed amount) refl).0
-keeps-two w (StatusRequest room) = ap (take 2) (no-other-writes w (StatusRequest room) refl).0
-keeps-two w (Burst bytes) = ap (take 2) (no-other-writes w (Burst bytes) refl).0
-keeps-two w (EndMark room) = ap (take 2) (no-other-writes w (EndMark room) refl).0
+keeps_two w (Packet p room) = ap (take 2) (no_other_writes w (Packet p room) refl).0
+keeps_two w (Report direction failed amount) = ap (take 2) (no_other_writes w (Report direction failed amount) refl).0
+keeps_two w (StatusRequest room) = ap (take 2) (no_other_writes w (StatusRequest room) refl).0
+keeps_two w (Burst bytes) = ap (take 2) (no_other_writes w (Burst bytes) refl).0
+keeps_two w (EndMark room) = ap (take 2) (no_other_writes w (EndMark room) refl).0
 
 -- nor do they become more or fewer
 written : (bytes : List ℕ) (e : Event) → length (bytes_done bytes e) ≡ length bytes
@@ -102,9 +102,9 @@ written bytes (StatusRequest room) = refl
 written bytes (Burst burst) = refl
 written bytes (EndMark room) = refl
 
-pub keeps-count : (w : World) (e : Event) → length (step w e).next.bytes ≡ length w.bytes
+pub keeps_count : (w : World) (e : Event) → length (step w e).next.bytes ≡ length w.bytes
 unfolding step
-keeps-count w e = go (done (answer w e))
+keeps_count w e = go (done (answer w e))
   where
     go : (t : Bool) → length (cond t (bytes_done w.bytes e) w.bytes) ≡ length w.bytes
     go true = written w.bytes e
@@ -118,7 +118,7 @@ record Fronted (w : World) : Type 0 where
 fronted : (w : World) (history : List Event) → Fronted w → Fronted (after rules w history)
 fronted w [] f = f
 fronted w (e ∷ es) f =
-    fronted (step w e).next es (record { sixteen = keeps-count w e ∙ f.sixteen; front = keeps-two w e ∙ f.front })
+    fronted (step w e).next es (record { sixteen = keeps_count w e ∙ f.sixteen; front = keeps_two w e ∙ f.front })
 
 pub saved_is_restored : SavedIsRestored rules
 unfolding over

@@ -16,38 +16,38 @@ use Rattle.rules.specs.Step.{step, rules}
 use Rattle.rules.specs.Demands.Requests.{wire}
 use Rattle.rules.specs.Demands.WellFormed.{Bytes}
 use Rattle.rules.specs.Demands.Makers.{Asks, set_configuration, get_configuration, clear_feature, get_status, get_max_lun, mass_storage_reset, load_config_data, read_config_data, soft_reset, bogus_read, get_descriptor, AskedIsFound, AcceptedWasAsked}
-use Rattle.rules.proofs.Checks.{EachRow, ◌also◌, request-each, request-passed}
+use Rattle.rules.proofs.Checks.{EachRow, ◌also◌, request_each, request_passed}
 use Rattle.rules.proofs.Rows.{in_parts}
 
-pub asked-is-found : AskedIsFound (λ setup. request_of (setup_of setup))
+pub asked_is_found : AskedIsFound (λ setup. request_of (setup_of setup))
 unfolding request_of
-asked-is-found setup q (set_configuration v (inl e)) = rw e
-asked-is-found setup q (set_configuration v (inr e)) = rw e
-asked-is-found setup q get_configuration = refl
-asked-is-found setup q (clear_feature i (inl e)) = rw e
-asked-is-found setup q (clear_feature i (inr e)) = rw e
-asked-is-found setup q (get_status i (inl e)) = rw e
-asked-is-found setup q (get_status i (inr e)) = rw e
-asked-is-found setup q get_max_lun = refl
-asked-is-found setup q mass_storage_reset = refl
-asked-is-found setup q (load_config_data place start n) = refl
-asked-is-found setup q (read_config_data place start n) = refl
-asked-is-found setup q soft_reset = refl
-asked-is-found setup q (bogus_read value index n) = refl
-asked-is-found setup q (get_descriptor value index n) = refl
+asked_is_found setup q (set_configuration v (inl e)) = rw e
+asked_is_found setup q (set_configuration v (inr e)) = rw e
+asked_is_found setup q get_configuration = refl
+asked_is_found setup q (clear_feature i (inl e)) = rw e
+asked_is_found setup q (clear_feature i (inr e)) = rw e
+asked_is_found setup q (get_status i (inl e)) = rw e
+asked_is_found setup q (get_status i (inr e)) = rw e
+asked_is_found setup q get_max_lun = refl
+asked_is_found setup q mass_storage_reset = refl
+asked_is_found setup q (load_config_data place start n) = refl
+asked_is_found setup q (read_config_data place start n) = refl
+asked_is_found setup q soft_reset = refl
+asked_is_found setup q (bogus_read value index n) = refl
+asked_is_found setup q (get_descriptor value index n) = refl
 
-pub asked-known : {setup : List ℕ} {q : Named} → Asks setup q → is_unknown q ≡ false
-asked-known (set_configuration value e) = refl
-asked-known get_configuration = refl
-asked-known (clear_feature index e) = refl
-asked-known (get_status index e) = refl
-asked-known get_max_lun = refl
-asked-known mass_storage_reset = refl
-asked-known (load_config_data place start n) = refl
-asked-known (read_config_data place start n) = refl
-asked-known soft_reset = refl
-asked-known (bogus_read value index n) = refl
-asked-known (get_descriptor value index n) = refl
+pub asked_known : {setup : List ℕ} {q : Named} → Asks setup q → is_unknown q ≡ false
+asked_known (set_configuration value e) = refl
+asked_known get_configuration = refl
+asked_known (clear_feature index e) = refl
+asked_known (get_status index e) = refl
+asked_known get_max_lun = refl
+asked_known mass_storage_reset = refl
+asked_known (load_config_data place start n) = refl
+asked_known (read_config_data place start n) = refl
+asked_known soft_reset = refl
+asked_known (bogus_read value index n) = refl
+asked_known (get_descriptor value index n) = refl
 
 -- eight bytes are the wire form of their fields
 rewired : (setup : List ℕ) → Bytes setup → length setup ≡ 8
@@ -78,8 +78,8 @@ module _ (setup : List ℕ) (whole : setup ≡ wire (byte 0 setup) (byte 1 setup
   asks : {q : Named} {k c v i n : ℕ} → s.kind ≡ k → s.code ≡ c → s.value ≡ v → s.index ≡ i → s.length ≡ n → Asks (wire k c v i n) q → Asks setup q
   asks {q} k c v i n a = subst (λ (x : List ℕ). Asks x q) (sym (whole ∙ λ j. wire (k j) (c j) (v j) (i j) (n j))) a
 
-  each-asks : EachRow (Asks setup) s table
-  each-asks =
+  each_asks : EachRow (Asks setup) s table
+  each_asks =
       (λ h. asks h.kind h.code refl (fixed h.index) (fixed h.length) (set_configuration s.value (one_of _ 0 2 h.value)))
       also (λ h. asks h.kind h.code (fixed h.value) (fixed h.index) (fixed h.length) get_configuration)
       also (λ h. asks h.kind h.code (fixed h.value) refl (fixed h.length) (clear_feature s.index (one_of _ 0x01 0x82 h.index)))
@@ -99,6 +99,6 @@ module _ (setup : List ℕ) (whole : setup ≡ wire (byte 0 setup) (byte 1 setup
 pub accepted_was_asked : AcceptedWasAsked rules
 unfolding step
 accepted_was_asked w setup host room h a =
-    let k = request-passed (seen_of w) w.memory setup (length host) room a in
+    let k = request_passed (seen_of w) w.memory setup (length host) room a in
     let s : Setup = setup_of setup in
-    (request_of s, request-each (Asks setup) s (each-asks setup (rewired setup h (eqb-true _ 8 (not-false _ k.0)))) k.1.1.0)
+    (request_of s, request_each (Asks setup) s (each_asks setup (rewired setup h (eqb-true _ 8 (not-false _ k.0)))) k.1.1.0)

@@ -27,20 +27,20 @@ use Rattle.rules.proofs.Changes.{either, feature}
 use Rattle.rules.proofs.Demands.WellFormed.{bytes_append, bytes_tested}
 
 -- four bytes are a number of 32 bits
-long-sized : (p : List ℕ) → Bytes p → (k : ℕ) → long k p < 2 ^ 32
-long-sized p h k = omega (arith, h k, h (k + 1), h (k + 2), h (k + 2 + 1))
+long_sized : (p : List ℕ) → Bytes p → (k : ℕ) → long k p < 2 ^ 32
+long_sized p h k = omega (arith, h k, h (k + 1), h (k + 2), h (k + 2 + 1))
 
 command : (t : Bool) (p : List ℕ) → Bytes p → Sized (command_taken t (command_of p))
-command true p h = (long-sized p h 4, long-sized p h 8)
-command false p h = (long-sized p h 4, long-sized p h 8)
+command true p h = (long_sized p h 4, long_sized p h 8)
+command false p h = (long_sized p h 4, long_sized p h 8)
 
-residue-sized : (wrong : Bool) (l amount : ℕ) → l < 2 ^ 32 → residue_of wrong l amount < 2 ^ 32
-residue-sized true l amount h = h
-residue-sized false l amount h = omega (arith, h)
+residue_sized : (wrong : Bool) (l amount : ℕ) → l < 2 ^ 32 → residue_of wrong l amount < 2 ^ 32
+residue_sized true l amount h = h
+residue_sized false l amount h = omega (arith, h)
 
 report : (direction failed amount : ℕ) (p : Phase) → Numbers p → Sized (report_taken direction failed amount p)
 report direction failed amount Awaiting n = tt
-report direction failed amount (Busy host lun tag l) n = (n.0, residue-sized (mismatch l host direction amount) l amount n.1)
+report direction failed amount (Busy host lun tag l) n = (n.0, residue_sized (mismatch l host direction amount) l amount n.1)
 report direction failed amount (StatusWaiting tag residue status) n = tt
 report direction failed amount (Stopped reset) n = tt
 
@@ -117,8 +117,8 @@ pub measured : (w : World) (history : List Event) → Measured w → AllOfBytes 
 measured w [] n h = n
 measured w (e ∷ es) n h = measured (step w e).next es (stepped w e n h.0) h.1
 
-pub measured-on : (start : Start) (memory : List ℕ) → Measured (powered start memory)
-measured-on start memory = (tt, none)
+pub measured_on : (start : Start) (memory : List ℕ) → Measured (powered start memory)
+measured_on start memory = (tt, none)
 
 pub stays_sized : StaysSized rules
-stays_sized start memory history h = (measured (powered start memory) history (measured-on start memory) h).0
+stays_sized start memory history h = (measured (powered start memory) history (measured_on start memory) h).0

@@ -17,11 +17,11 @@ use Rattle.rules.specs.Answers.{seen_of, request_answer}
 use Rattle.rules.specs.Step.{Control, change, step, rules}
 use Rattle.rules.specs.Demands.Requests.{wire, asking}
 use Rattle.rules.specs.Demands.Coherence.{ReadWasThere, Replies, page_in, row_of, ThereIsRead, WrittenIsRead, WritableIsWritten, WrittenWasWritable}
-use Rattle.rules.proofs.Checks.{request-passed}
+use Rattle.rules.proofs.Checks.{request_passed}
 use Rattle.rules.proofs.Demands.Requests.{whole}
 use Rattle.rules.proofs.Replies.{inside}
 use Rattle.rules.proofs.Rows.{over-length}
-use Rattle.rules.proofs.Pages.{eights_in, some_bytes, within-page}
+use Rattle.rules.proofs.Pages.{eights_in, some_bytes, within_page}
 
 -- ---- reads
 
@@ -32,9 +32,9 @@ pub reads : (w : World) (place start n : ℕ) → w.bridge.configured ≡ true �
 unfolding step change request_of request_answer
 reads w place start n c p f a = rw (c, whole place, whole start, whole n, p, f, a, le-ltb n n (omega arith)) (refl, refl)
 
-pub there-is-read : ThereIsRead rules
+pub there_is_read : ThereIsRead rules
 unfolding address
-there-is-read w start n c = (
+there_is_read w start n c = (
   λ k l. reads w 0x0000 start n c refl refl (rw (le-leb 0 start (omega arith), le-leb start 15 (omega arith), le-leb (start + n) 16 l)),
   λ k l.
       reads w 0x0002 start n c refl (ne_eqb (size_of w.memory) 0 (λ z. omega arith))
@@ -44,7 +44,7 @@ there-is-read w start n c = (
 pub read_was_there : ReadWasThere rules
 unfolding step request_of address
 read_was_there w place start n host room a =
-    let k = request-passed (seen_of w) w.memory (wire 0xC0 0x02 place start n) (length host) room a in
+    let k = request_passed (seen_of w) w.memory (wire 0xC0 0x02 place start n) (length host) room a in
     let p = rw (whole place, whole start, whole n) at k.1.1.1 in
     go (in_memory place) refl (not-false _ p.0) (not-false _ p.1.1.0)
   where
@@ -65,14 +65,14 @@ read_was_there w place start n host room a =
 -- ---- writes
 
 -- what stands over a row is read from it
-over-read : (row : List ℕ) (at : ℕ) (xs : List ℕ) → at + length xs ≤ length row → take (length xs) (drop at (over row at xs)) ≡ xs
+over_read : (row : List ℕ) (at : ℕ) (xs : List ℕ) → at + length xs ≤ length row → take (length xs) (drop at (over row at xs)) ≡ xs
 unfolding over
-over-read row zero [] h = refl
-over-read [] zero (x ∷ xs) h = absurd (omega arith)
-over-read (r ∷ row) zero (x ∷ xs) h = ap (λ (l : List ℕ). x ∷ l) (over-read row zero xs (omega arith))
-over-read [] (suc at) [] h = refl
-over-read [] (suc at) (x ∷ xs) h = absurd (omega arith)
-over-read (r ∷ row) (suc at) xs h = over-read row at xs (omega arith)
+over_read row zero [] h = refl
+over_read [] zero (x ∷ xs) h = absurd (omega arith)
+over_read (r ∷ row) zero (x ∷ xs) h = ap (λ (l : List ℕ). x ∷ l) (over_read row zero xs (omega arith))
+over_read [] (suc at) [] h = refl
+over_read [] (suc at) (x ∷ xs) h = absurd (omega arith)
+over_read (r ∷ row) (suc at) xs h = over_read row at xs (omega arith)
 
 -- what needs the configuration and is not refused for it is configured
 pub needed : (c : Bool) → (not c && true) ≡ false → c ≡ true
@@ -97,7 +97,7 @@ wrote : (w : World) (place start : ℕ) (host : List ℕ) (room : ℕ)
 unfolding step change request_of
 wrote w place start host room a =
     let n : ℕ = length host in
-    let k = request-passed (seen_of w) w.memory (wire 0x40 0x01 place start n) n room a in
+    let k = request_passed (seen_of w) w.memory (wire 0x40 0x01 place start n) n room a in
     let p = rw (whole place, whole start, whole n) at k.1 in
     record {
       configured = needed w.bridge.configured p.0;
@@ -121,8 +121,8 @@ readable m place start n a = go (in_memory place) a
         let b = (and-eq-true_iff (leb 2 start && leb start 15) (leb (start + n) 16)).0 a in
         rw (le-leb 0 start (omega arith), ((and-eq-true_iff (leb 2 start) (leb start 15)).0 b.0).1, b.1)
 
-pub written-is-read : WrittenIsRead rules
-written-is-read w place start host room sixteen a = rw k.next (go (in_memory place) refl)
+pub written_is_read : WrittenIsRead rules
+written_is_read w place start host room sixteen a = rw k.next (go (in_memory place) refl)
   where
     k : Wrote w place start host room
     k = wrote w place start host room a
@@ -140,11 +140,11 @@ written-is-read w place start host room sixteen a = rw k.next (go (in_memory pla
         let next : World = holding w.held (world w.bridge w.bytes (over w.memory start host)) in
         let long : length (over w.memory start host) ≡ length w.memory = over-length w.memory start host in
         let r = reads next place start (length host) k.configured k.placed (rw long k.fitted) (rw long right) in
-        (r.0, r.1 ∙ rw e (over-read w.memory start host (rw e at fits)))
+        (r.0, r.1 ∙ rw e (over_read w.memory start host (rw e at fits)))
     go false e =
         let next : World = holding w.held (world w.bridge (over w.bytes start host) w.memory) in
         let r = reads next place start (length host) k.configured k.placed k.fitted right in
-        (r.0, r.1 ∙ rw e (over-read w.bytes start host (rw e at fits)))
+        (r.0, r.1 ∙ rw e (over_read w.bytes start host (rw e at fits)))
 
 -- a write is accepted where no check of its place applies
 pub writes : (w : World) (place start : ℕ) (host : List ℕ) → w.bridge.configured ≡ true → (in_bytes place || in_memory place) ≡ true
@@ -170,7 +170,7 @@ writable_is_written w host start page row c some = (
       writes w 0x0002 at host c refl (ne_eqb m 0 (λ z. omega arith))
       (rw (lt-ltb at m (omega arith), le-leb (at + n) m h))
       (rw eights)
-      (rw (within-page size at n (some_bytes w.bridge.dock.page), inner, le-leb (8 * row + n) size l)),
+      (rw (within_page size at n (some_bytes w.bridge.dock.page), inner, le-leb (8 * row + n) size l)),
 )
 
 -- a start at a multiple of eight, by its page and its row of eight there
@@ -205,7 +205,7 @@ written_was_writable w place start host room some a = go (in_memory place) refl 
         ⊎ ((place ≡ 0x0002) × ((page : ℕ) × (row : ℕ) × (start ≡ row_of size page row) × (8 * row + n ≤ size) × (start + n ≤ m)))
     go true e p i eights pages =
         let r = rowed w.bridge.dock.page start (eqb-true _ 0 (not-false (at_eight start) eights)) in
-        let l = leb-true _ size (sym (within-page size start n (some_bytes w.bridge.dock.page)) ∙ not-false _ pages) in
+        let l = leb-true _ size (sym (within_page size start n (some_bytes w.bridge.dock.page)) ∙ not-false _ pages) in
         inr (eqb-true place 2 e, (start / size, start % size / 8, r.0, omega (arith, r.1), leb-true (start + n) m ((and-eq-true_iff (ltb start m) _).0 i).1))
     go false e p i eights pages =
         let b = (and-eq-true_iff (leb 2 start && leb start 15) (leb (start + n) 16)).0 i in

@@ -29,23 +29,23 @@ use Rattle.rules.specs.Requests.{Named, Unknown, Known, Describes, setup_of, req
 use Rattle.rules.specs.Answers.{report_checks, report_answer}
 use Rattle.rules.specs.Step.{Event, BusReset, Control, Packet, Report, StatusRequest, Burst, EndMark, packet_changes, change, held_after, step, rules, after, answer, done, damaged, change_done, bytes_done, memory_done}
 use Rattle.rules.specs.Demands.WellFormed.{Bytes, Proper, ProperAll, sound, WellFormed, StaysWellFormed}
-use Rattle.rules.proofs.Bursts.{held-length}
+use Rattle.rules.proofs.Bursts.{held_length}
 use Rattle.rules.proofs.Checks.{passed}
 use Rattle.rules.proofs.Rows.{over-length}
-use Rattle.rules.proofs.Demands.Packets.{drive-held}
+use Rattle.rules.proofs.Demands.Packets.{drive_held}
 
 -- ---- bytes
 
 -- one row over another
-bytes-over : (row : List ℕ) (at : ℕ) (xs : List ℕ) → Bytes row → Bytes xs → Bytes (over row at xs)
+bytes_over : (row : List ℕ) (at : ℕ) (xs : List ℕ) → Bytes row → Bytes xs → Bytes (over row at xs)
 unfolding over
-bytes-over row zero [] h k j = h j
-bytes-over [] zero (x ∷ xs) h k j = h j
-bytes-over (r ∷ row) zero (x ∷ xs) h k zero = k zero
-bytes-over (r ∷ row) zero (x ∷ xs) h k (suc j) = bytes-over row zero xs (λ i. h (suc i)) (λ i. k (suc i)) j
-bytes-over [] (suc at) xs h k j = h j
-bytes-over (r ∷ row) (suc at) xs h k zero = h zero
-bytes-over (r ∷ row) (suc at) xs h k (suc j) = bytes-over row at xs (λ i. h (suc i)) k j
+bytes_over row zero [] h k j = h j
+bytes_over [] zero (x ∷ xs) h k j = h j
+bytes_over (r ∷ row) zero (x ∷ xs) h k zero = k zero
+bytes_over (r ∷ row) zero (x ∷ xs) h k (suc j) = bytes_over row zero xs (λ i. h (suc i)) (λ i. k (suc i)) j
+bytes_over [] (suc at) xs h k j = h j
+bytes_over (r ∷ row) (suc at) xs h k zero = h zero
+bytes_over (r ∷ row) (suc at) xs h k (suc j) = bytes_over row at xs (λ i. h (suc i)) k j
 
 -- one behind another
 pub bytes_append : (s t : List ℕ) → Bytes s → Bytes t → Bytes (s ++ t)
@@ -74,12 +74,12 @@ abbrev with : Bridge → Phase → Bool → Bool → Bridge
 with b p o i = in_phase p (halted o i b)
 
 -- Mass Storage Reset, SOFT_RESET
-sound-reset : (b : Bridge) (p : Phase) (o i : Bool) → Sound (with b p o i) → Sound (made (mass_storage_reset p) (with b p o i))
-sound-reset b Awaiting o i s = refl
-sound-reset b (Busy d lun tag l) o i s = refl
-sound-reset b (StatusWaiting tag residue status) o i s = refl
-sound-reset b (Stopped false) o i s = rw ((and-eq-true_iff o i).0 s).0
-sound-reset b (Stopped true) o i s = s
+sound_reset : (b : Bridge) (p : Phase) (o i : Bool) → Sound (with b p o i) → Sound (made (mass_storage_reset p) (with b p o i))
+sound_reset b Awaiting o i s = refl
+sound_reset b (Busy d lun tag l) o i s = refl
+sound_reset b (StatusWaiting tag residue status) o i s = refl
+sound_reset b (Stopped false) o i s = rw ((and-eq-true_iff o i).0 s).0
+sound_reset b (Stopped true) o i s = s
 
 sound_soft : (b : Bridge) (p : Phase) (o i : Bool) → Sound (with b p o i) → Sound (made (soft_reset p) (with b p o i))
 sound_soft b Awaiting o i s = refl
@@ -88,14 +88,14 @@ sound_soft b (StatusWaiting tag residue status) o i s = refl
 sound_soft b (Stopped reset) o i s = s
 
 -- Clear Feature, of either pipe
-sound-out : (b : Bridge) (p : Phase) (o i : Bool) → Sound (with b p o i) → Sound (made (clears_pipe p Out i) (with b p o i))
-sound-out b Awaiting o i s = refl
-sound-out b (Busy Out lun tag l) o i s = s
-sound-out b (Busy In lun tag l) o i s = s
-sound-out b (StatusWaiting tag residue status) o i s = s
-sound-out b (Stopped false) o i s = s
-sound-out b (Stopped true) o true s = refl
-sound-out b (Stopped true) o false s = refl
+sound_out : (b : Bridge) (p : Phase) (o i : Bool) → Sound (with b p o i) → Sound (made (clears_pipe p Out i) (with b p o i))
+sound_out b Awaiting o i s = refl
+sound_out b (Busy Out lun tag l) o i s = s
+sound_out b (Busy In lun tag l) o i s = s
+sound_out b (StatusWaiting tag residue status) o i s = s
+sound_out b (Stopped false) o i s = s
+sound_out b (Stopped true) o true s = refl
+sound_out b (Stopped true) o false s = refl
 
 sound_in : (b : Bridge) (p : Phase) (o i : Bool) → Sound (with b p o i) → Sound (made (clears_pipe p In o) (with b p o i))
 sound_in b Awaiting o i s = refl
@@ -114,10 +114,10 @@ sound_busy drives lun tag l true false h n e = lt-ltb (lun_number lun) (drive_co
 sound_busy drives lun tag l false x h n e = lt-ltb (lun_number lun) (drive_count drives) n
 
 -- a status that waits, whichever pipe it halts
-sound-status : (t : Bool) (d : Direction) (b : Bridge) (tag residue status : ℕ) → leb status 2 ≡ true
+sound_status : (t : Bool) (d : Direction) (b : Bridge) (tag residue status : ℕ) → leb status 2 ≡ true
     → Sound (halting t d (in_phase (StatusWaiting tag residue status) b))
-sound-status t Out b tag residue status h = h
-sound-status t In b tag residue status h = h
+sound_status t Out b tag residue status h = h
+sound_status t In b tag residue status h = h
 
 -- "failed (0 or 1)", of a report that is answered 0; so its status is at most 2
 report_failed : (b : Bridge) (direction failed amount : ℕ) → report_answer b direction failed amount ≡ 0 → failed ≤ 1
@@ -130,9 +130,9 @@ report_failed b direction failed amount z =
     second false true z e = absurd (true≢false e)
     second false false z e = refl
 
-status-most : (wrong : Bool) (failed : ℕ) → failed ≤ 1 → leb (status_of wrong failed) 2 ≡ true
-status-most true failed h = refl
-status-most false failed h = le-leb failed 2 (omega arith)
+status_most : (wrong : Bool) (failed : ℕ) → failed ≤ 1 → leb (status_of wrong failed) 2 ≡ true
+status_most true failed h = refl
+status_most false failed h = le-leb failed 2 (omega arith)
 
 -- ---- one event
 
@@ -147,34 +147,34 @@ module _ (w : World) (g : WellFormed w) where
   -- a command, by whether its block is recognised
   command : (t : Bool) (c : CommandPacket) → lun_number (lun_of c) < drive_count b.dock.drives → Sound (made (command_taken t c) b)
   command true c n = sound_busy b.dock.drives (lun_of c) c.tag c.length (ltb 0 c.length) (eqb c.flags 0x80) b.halts n refl
-  command false c n = sound-status (ltb 0 c.length) (direction_of c) b c.tag c.length 1 refl
+  command false c n = sound_status (ltb 0 c.length) (direction_of c) b c.tag c.length 1 refl
 
   packet : (p : List ℕ) (room : ℕ) → done (answer w (Packet p room)) ≡ true → Sound (made (packet_changes w p) b)
-  packet p room z = command (recognises (signature_of w.bytes) p) (command_of p) (drive-held w p room (eqb-true _ 0 z)).1
+  packet p room z = command (recognises (signature_of w.bytes) p) (command_of p) (drive_held w p room (eqb-true _ 0 z)).1
 
   -- a report, by the phase that it meets
   report : (direction failed amount : ℕ) (p : Phase) → failed ≤ 1 → Sound (made (report_taken direction failed amount p) b)
   report direction failed amount Awaiting f = g.phase
   report direction failed amount (Busy host lun tag l) f =
       let wrong : Bool = mismatch l host direction amount in
-      sound-status (halts_pipe wrong l amount) host b tag (residue_of wrong l amount) (status_of wrong failed) (status-most wrong failed f)
+      sound_status (halts_pipe wrong l amount) host b tag (residue_of wrong l amount) (status_of wrong failed) (status_most wrong failed f)
   report direction failed amount (StatusWaiting tag residue status) f = g.phase
   report direction failed amount (Stopped reset) f = g.phase
 
   -- Clear Feature, by whether it names bulk out
   clear : (t : Bool) → Sound (made (cond t (clears_pipe b.phase Out b.halts.inward) (clears_pipe b.phase In b.halts.outward)) b)
-  clear true = sound-out b b.phase b.halts.outward b.halts.inward g.phase
+  clear true = sound_out b b.phase b.halts.outward b.halts.inward g.phase
   clear false = sound_in b b.phase b.halts.outward b.halts.inward g.phase
 
   -- a write, by whether its place is the memory
   write : (start : ℕ) (host : List ℕ) → Bytes host → (t : Bool)
       → WellFormed (world b (cond (not t) (over w.bytes start host) w.bytes) (cond t (over w.memory start host) w.memory))
   write start host h true =
-      record { sixteen = g.sixteen; bytes = g.bytes; memory = bytes-over w.memory start host g.memory h; phase = g.phase; held = omega arith }
+      record { sixteen = g.sixteen; bytes = g.bytes; memory = bytes_over w.memory start host g.memory h; phase = g.phase; held = omega arith }
   write start host h false =
       record {
         sixteen = over-length w.bytes start host ∙ g.sixteen;
-        bytes = bytes-over w.bytes start host g.bytes h;
+        bytes = bytes_over w.bytes start host g.bytes h;
         memory = g.memory;
         phase = g.phase;
         held = omega arith;
@@ -188,7 +188,7 @@ module _ (w : World) (g : WellFormed w) where
   request (Known GetStatus) s host h = keeps b g.phase
   request (Known GetMaxLun) s host h = keeps b g.phase
   request (Known MassStorageReset) s host h =
-      keeps _ (sound-reset b b.phase b.halts.outward b.halts.inward g.phase)
+      keeps _ (sound_reset b b.phase b.halts.outward b.halts.inward g.phase)
   request (Known LoadConfigData) s host h = write s.index host h (in_memory s.value)
   request (Known ReadConfigData) s host h = keeps b g.phase
   request (Known SoftReset) s host h = keeps _ (sound_soft b b.phase b.halts.outward b.halts.inward g.phase)
@@ -229,7 +229,7 @@ module _ (w : World) (g : WellFormed w) where
   holds (Packet p room) = omega arith
   holds (Report direction failed amount) = g.held
   holds (StatusRequest room) = g.held
-  holds (Burst burst) = held-length (w.held ++ burst)
+  holds (Burst burst) = held_length (w.held ++ burst)
   holds (EndMark room) = omega arith
 
   stepped : (e : Event) → Proper e → WellFormed (step w e).next
@@ -247,5 +247,5 @@ run w (e ∷ es) g h = run (step w e).next es (stepped w g e h.0) h.1
 pub stays_well_formed : StaysWellFormed rules
 stays_well_formed start memory history s m h =
     let sixteen = over-length power_on_bytes _ start.settings in
-    let bytes = bytes-over power_on_bytes _ start.settings (bytes_tested power_on_bytes refl) s in
+    let bytes = bytes_over power_on_bytes _ start.settings (bytes_tested power_on_bytes refl) s in
     run (powered start memory) history (record { sixteen = sixteen; bytes = bytes; memory = m; phase = refl; held = omega arith }) h

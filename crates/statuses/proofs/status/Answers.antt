@@ -3,18 +3,18 @@ use Rattle.std.proofs.Common.{◌≡◌, false, refl, inl, inr}
 use borrow.Author.Tests.{not-true, not-false}
 use Rattle.rules.specs.Answers.{status_answer}
 use Rattle.rules.specs.Held.{is_status_waiting}
-use Rattle.rules.proofs.Promises.{status-refused}
+use Rattle.rules.proofs.Promises.{status_refused}
 use Rattle.statuses.proofs.status.Goals as goal
 
 pub returns-then-not-b : goal.returns-then-not-b
 unfolding status_answer
-returns-then-not-b c = rw c.refused.ensures (status-refused _ _ 4 (rw (not-true c.args.b.configured c.if-not-b.true)) refl)
+returns-then-not-b c = rw c.refused.ensures (status_refused _ _ 4 (rw (not-true c.args.b.configured c.if-not-b.true)) refl)
 
 pub returns-then-is_stopped-b : goal.returns-then-is_stopped-b
 unfolding status_answer
 returns-then-is_stopped-b c =
     rw c.refused-then-is_stopped-b.ensures
-    (status-refused _ _ 11 (rw (not-false c.args.b.configured c.if-not-b.false, ← c.is_stopped.ensures, c.if-is_stopped-b.true)) refl)
+    (status_refused _ _ 11 (rw (not-false c.args.b.configured c.if-not-b.false, ← c.is_stopped.ensures, c.if-is_stopped-b.true)) refl)
 
 pub returns-in-Awaiting : goal.returns-in-Awaiting
 unfolding status_answer
@@ -22,5 +22,5 @@ returns-in-Awaiting c =
     let idle : is_status_waiting c.args.b.phase ≡ false =
     elim c.in-Awaiting.is [ inl e ↦ rw e | inr s ↦ elim s [ inl w ↦ rw w.4 | inr w ↦ rw w.1 ] ] in
     rw c.refused-in-Awaiting.ensures
-    (status-refused _ _ 16
+    (status_refused _ _ 16
     (rw (not-false c.args.b.configured c.if-not-b.false, ← c.is_stopped.ensures, c.if-is_stopped-b.false, idle)) refl)

@@ -4,7 +4,7 @@ use Rattle.rules.specs.Held.{world}
 use Rattle.rules.specs.Step.{BusReset, StatusRequest}
 use Rattle.records.specs.Records.{event_of}
 use Rattle.records.specs.Lines.{hex_byte}
-use Rattle.records.proofs.Printing.{count_fits, prints, report-six, status-prints}
+use Rattle.records.proofs.Printing.{count_fits, prints, report_six, status_prints}
 use Rattle.records.proofs.events.print_event.Goals as goal
 
 pub print_bytes-requires : goal.print_bytes-requires
@@ -13,7 +13,7 @@ print_bytes-requires c =
     (fits, omega arith, c.requires.2)
 
 pub print_report-requires : goal.print_report-requires
-print_report-requires c = (report-six c.in-4.is c.requires.0, c.requires.2)
+print_report-requires c = (report_six c.in-4.is c.requires.0, c.requires.2)
 
 pub print_bytes-requires-in_default : goal.print_bytes-requires-in_default
 print_bytes-requires-in_default c =
@@ -34,6 +34,6 @@ returns-in-4 c = rw c.in-4.is (c.print_report.ensures c.args.bytes.now c.args.me
 
 pub returns-in_default : goal.returns-in_default
 returns-in_default c =
-    status-prints (world c.args.b c.args.bytes.now c.args.memory.now) c.args.payload.now c.args.reply.now refl
+    status_prints (world c.args.b c.args.bytes.now c.args.memory.now) c.args.payload.now c.args.reply.now refl
     (omega arith) (omega arith) (omega arith) (omega arith)
     c.requires.1 (c.status-o.ensures c.args.bytes.now c.args.memory.now) c.print_bytes-in_default.ensures

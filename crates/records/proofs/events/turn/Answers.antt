@@ -1,7 +1,7 @@
 -- A whole record prints its event, a torn one `torn`, and a part nothing.
 use Rattle.std.proofs.Common.{arith}
 use Rattle.records.proofs.Heads.{whole_facts}
-use Rattle.records.proofs.Turning.{no_room, part-taken, torn-taken, ends-inside, not-torn, whole-taken}
+use Rattle.records.proofs.Turning.{no_room, part_taken, torn_taken, ends_inside, not_torn, whole_taken}
 use Rattle.records.proofs.events.turn.Goals as goal
 
 pub returns-then-output-at-lt-LINE_MOST : goal.returns-then-output-at-lt-LINE_MOST
@@ -23,25 +23,25 @@ bounds-input-3 c = omega (arith, (whole_facts c.args.last c.args.input.now c.hea
 
 pub slice_bounds-print_event-end : goal.slice_bounds-print_event-end
 slice_bounds-print_event-end c =
-    ends-inside c.args.last c.args.b c.args.bytes.now c.args.memory.now c.args.input.now c.args.output.now c.args.at c.requires.1 c.if-output-at-lt-LINE_MOST.false c.head_of-head.ensures c.in-Whole.is c.word.ensures c.word-kind.ensures
+    ends_inside c.args.last c.args.b c.args.bytes.now c.args.memory.now c.args.input.now c.args.output.now c.args.at c.requires.1 c.if-output-at-lt-LINE_MOST.false c.head_of-head.ensures c.in-Whole.is c.word.ensures c.word-kind.ensures
 
 pub print_event-p-requires : goal.print_event-p-requires
 print_event-p-requires c = (
-  not-torn c.args.last c.args.b c.args.bytes.now c.args.memory.now c.args.input.now c.args.output.now c.args.at c.requires.1 c.if-output-at-lt-LINE_MOST.false c.head_of-head.ensures c.in-Whole.is c.word.ensures c.word-kind.ensures,
+  not_torn c.args.last c.args.b c.args.bytes.now c.args.memory.now c.args.input.now c.args.output.now c.args.at c.requires.1 c.if-output-at-lt-LINE_MOST.false c.head_of-head.ensures c.in-Whole.is c.word.ensures c.word-kind.ensures,
   c.requires.0,
   omega (arith, c.if-output-at-lt-LINE_MOST.false, c.requires.1),
 )
 
 pub returns-in-Whole : goal.returns-in-Whole
 returns-in-Whole c =
-    whole-taken c.args.last c.args.b c.args.bytes.now c.args.memory.now c.args.input.now c.args.output.now c.args.at c.requires.1 c.if-output-at-lt-LINE_MOST.false c.head_of-head.ensures c.in-Whole.is c.word.ensures c.word-kind.ensures c.print_event-p.ensures
+    whole_taken c.args.last c.args.b c.args.bytes.now c.args.memory.now c.args.input.now c.args.output.now c.args.at c.requires.1 c.if-output-at-lt-LINE_MOST.false c.head_of-head.ensures c.in-Whole.is c.word.ensures c.word-kind.ensures c.print_event-p.ensures
 
 pub returns-in-Torn : goal.returns-in-Torn
 returns-in-Torn c =
     rw c.untaken-in-Torn.ensures
-    (torn-taken c.args.last c.args.b c.args.bytes.now c.args.memory.now c.args.input.now c.args.output.now c.args.at c.requires.1 c.if-output-at-lt-LINE_MOST.false c.head_of-head.ensures c.in-Torn.is c.put_torn.ensures)
+    (torn_taken c.args.last c.args.b c.args.bytes.now c.args.memory.now c.args.input.now c.args.output.now c.args.at c.requires.1 c.if-output-at-lt-LINE_MOST.false c.head_of-head.ensures c.in-Torn.is c.put_torn.ensures)
 
 pub returns-in-Part : goal.returns-in-Part
 returns-in-Part c =
     rw c.untaken-in-Part.ensures
-    (part-taken c.args.last c.args.b c.args.bytes.now c.args.memory.now c.args.input.now c.args.output.now c.args.at c.requires.1 c.if-output-at-lt-LINE_MOST.false c.head_of-head.ensures c.in-Part.is)
+    (part_taken c.args.last c.args.b c.args.bytes.now c.args.memory.now c.args.input.now c.args.output.now c.args.at c.requires.1 c.if-output-at-lt-LINE_MOST.false c.head_of-head.ensures c.in-Part.is)

@@ -5,14 +5,14 @@ use Rattle.rules.specs.Packets.{signature_of}
 use Rattle.rules.specs.Step.{Packet}
 use Rattle.packets.specs.Awaited.{Awaits}
 use Rattle.image.specs.Image.{bytes_of, decode, put}
-use Rattle.image.proofs.InStep.{dropped-bytes, dropped_decodes}
+use Rattle.image.proofs.InStep.{dropped_bytes, dropped_decodes}
 use Rattle.thrandue.proofs.Laws.{told}
 use Rattle.thrandue.proofs.commands.take.Goals as goal
 
 pub returns : goal.returns
 returns c =
     let image : List ℕ = c.args.image.now in
-    let signature = c.signature_of-signature.ensures ∙ ap (λ (i : List ℕ). signature_of (bytes_of i)) c.make.ensures ∙ ap signature_of (dropped-bytes image) in
+    let signature = c.signature_of-signature.ensures ∙ ap (λ (i : List ℕ). signature_of (bytes_of i)) c.make.ensures ∙ ap signature_of (dropped_bytes image) in
     let drives = c.drives_of-drives.ensures ∙ ap (λ (i : List ℕ). (decode i).dock.drives) c.make.ensures ∙ ap (λ (b : Bridge). b.dock.drives) (dropped_decodes image) in
     let free = c.requires.1 in
     let awaits : Awaits c.drives_of-drives.result (decode image) =
