@@ -14,7 +14,7 @@ SEED = 1
 
 c11 = -std=c11 -Wall -Wextra -Wpedantic -Werror -Ihost
 strict = $(c11) -O2
-crates := crates.txt $(shell find crates -type f -not -path '*/must-fail/*')
+crates := crates.txt $(shell find crates -type f -not -path '*/must-fail/*' -not -path 'crates/*/out/*')
 headers := $(wildcard host/*.h check/*.h)
 records = host/record.c host/command.c
 replay = host/replay.c host/explain.c host/bench.c $(records)
@@ -39,33 +39,31 @@ figures: build/session build/generate build/figures/thrandue build/figures/secon
 	@tools/figures
 
 clean:
-	rm -rf build target
+	rm -rf build crates/*/out
 
-# Proved, then made.
-target/bin/bench: $(crates)
+# Proved, then made, in its crate's out/, where `rt ci` leaves none. A program is made to be run: here on an empty session.
+build/x86-64/bench: $(crates)
 	$(proving)
-	rt check bench
-	@touch $@
+	cd crates/bench && rt run </dev/null >/dev/null
+	@mkdir -p $(@D)
+	cp crates/bench/out/bench $@
 
-target/staticlib/libthrandue.a target/staticlib/libservice.a: target/staticlib/lib%.a: $(crates)
+build/libthrandue.a build/libservice.a: build/lib%.a: $(crates)
 	$(proving)
-	rt staticlib $*
-	@touch $@
+	cd crates/$* && rt lib
+	@mkdir -p $(@D)
+	cp crates/$*/out/lib$*.a $@
 
 # Those that hold proved code are x86-64 programs, on aarch64 too.
-build/bench: target/bin/bench tools/x86
-	@mkdir -p $(@D)
-	tools/x86 install $< $@
-
 proved = replay coverage service unchanged mends
-$(proved:%=build/%): build/%: build/x86-64/% tools/x86
+build/bench $(proved:%=build/%): build/%: build/x86-64/% tools/x86
 	tools/x86 install $< $@
 
-build/x86-64/replay: $(replay) target/staticlib/libthrandue.a
-build/x86-64/coverage: check/coverage.c host/bench.c $(records) target/staticlib/libthrandue.a
-build/x86-64/service: $(service) target/staticlib/libservice.a
-build/x86-64/unchanged: check/unchanged.c host/command.c target/staticlib/libservice.a
-build/x86-64/mends: check/mends.c host/command.c target/staticlib/libservice.a
+build/x86-64/replay: $(replay) build/libthrandue.a
+build/x86-64/coverage: check/coverage.c host/bench.c $(records) build/libthrandue.a
+build/x86-64/service: $(service) build/libservice.a
+build/x86-64/unchanged: check/unchanged.c host/command.c build/libservice.a
+build/x86-64/mends: check/mends.c host/command.c build/libservice.a
 $(proved:%=build/x86-64/%): $(headers)
 	@mkdir -p $(@D)
 	tools/x86 cc $(strict) -o $@ $(filter %.c %.a,$^)
@@ -76,7 +74,7 @@ build/figures/%.o: check/%.c $(headers) $(wildcard tools/freestanding/*.h)
 	@mkdir -p $(@D)
 	tools/x86 clang $(c11) -O3 -ffunction-sections -fno-asynchronous-unwind-tables -c -o $@ $<
 
-build/figures/thrandue: $(measure) build/figures/plain_copy.o target/staticlib/libthrandue.a
+build/figures/thrandue: $(measure) build/figures/plain_copy.o build/libthrandue.a
 build/figures/second: $(measure) build/figures/plain_copy.o build/figures/second_bridge.o build/figures/second_store.o
 build/figures/second: define = -DMEASURES_SECOND
 build/figures/thrandue build/figures/second: $(headers)

@@ -20,7 +20,7 @@ log_of() {
 # refused is refused too and shows nothing; nor does a name that is not in scope, a parse error or a goal that cannot be named: 'nothing' stands for
 # these. A long message says what it is in its second line, which is indented.
 refusals() {
-    awk '
+    [ -f "$1" ] && awk '
         function name_of(path,  parts, count) {
             count = split(path, parts, /::|\//)
             return (count > 1 && parts[count - 1] ~ /^[A-Z]/ ? parts[count - 1] "::" : "") parts[count]
