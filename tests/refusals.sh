@@ -54,6 +54,7 @@ refusals() {
             $0 = line
             if (line ~ /^fn .*: no proof: .*did not prove/) {
                 sub(/^.*did not prove/, "", line)
+                sub(/;.*/, "", line)
                 not_searched(line)
             } else if (line ~ /^fn .*: not proved/)
                 not_searched(goals)
