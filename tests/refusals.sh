@@ -63,7 +63,7 @@ refusals() {
                 sub(/`\).*/, "`", line)
                 goals = goals line
             } else if (line ~ /: error: /) {
-                if (line ~ /is not in scope|cannot continue|unexpected|was not admitted|has no field|is no name|operand is missing|expected the end/)
+                if (line ~ /is not in scope|can be named from here|cannot continue|unexpected|was not admitted|has no field|is no name|operand is missing|expected the end/)
                     tell("written", "nothing")
                 else if (line ~ /^[^ ]*\.antt:[0-9:]* error: `[^`]+`/)
                     refused()

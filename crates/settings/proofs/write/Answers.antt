@@ -4,4 +4,4 @@ use Rattle.settings.proofs.Making.{laid_into}
 use Rattle.settings.proofs.write.Goals as goal
 
 pub returns : goal.returns
-returns c = laid_into c.args.settings c.args.room.now c.if-room-lt-RECORD.false (omega arith) c.record_of.ensures c.copy.ensures
+returns c = laid_into c.args.settings c.args.room.now (omega arith) (omega arith) c.record_of.ensures c.copy.ensures
