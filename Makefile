@@ -1,7 +1,7 @@
 # make: the programs in build/; bench, replay and second each read a session on standard input, service and second-service work on settings stores and
 # images of a memory part.
 # make replay SESSION=FILE: what the bridge does with a session, in words.
-# make test: everything is proved and tested, from nothing; its last line is 'N passed, 0 failed'.
+# make test: everything is proved and tested; its last line is 'N passed, 0 failed'.
 # make soak EVENTS=N SEED=S: the programs are compared on N generated events.
 # make figures: docs/FIGURES.md, the instructions, times and sizes of both bridges, and what the proofs take.
 .PHONY: all replay test soak figures clean

@@ -47,7 +47,7 @@ number-length n = by_digits (ltb n 10)
     by_digits true = omega arith
     by_digits false = omega arith
 
--- ---- a line: the number, what was handed out, and the end. f is hexByte or hexWord, and m how long it is.
+-- ---- a line: the number, what was handed out, and the end. f is hex_byte or hex_word, and m how long it is.
 
 module _ (f : ℕ → List ℕ) (m : ℕ) (size : (x : ℕ) → length (f x) ≡ m) (n : ℕ) (out : List ℕ) (count : ℕ) (there : count ≤ length out) (short : count * m ≤ 12288)
     {a b : List ℕ} {at i : ℕ} (room : at + line_most ≤ length a) (number_put : Put a at (number n) b i) where

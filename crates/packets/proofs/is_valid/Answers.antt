@@ -1,4 +1,5 @@
 -- The length and the signature are those that `valid` asks for.
+use Rattle.std.proofs.Common.{length, arith}
 use borrow.Author.Tests.{eq-eqb, ne_eqb}
 use Rattle.rules.specs.Packets.{valid}
 use Rattle.packets.proofs.is_valid.Goals as goal
@@ -9,4 +10,4 @@ returns-then-packet-ne-LENGTH c = rw (ne_eqb _ _ c.if-packet-ne-LENGTH.true)
 
 pub returns : goal.returns
 unfolding valid
-returns c = rw (eq-eqb _ _ c.if-packet-ne-LENGTH.false, c.long.ensures)
+returns c = rw (eq-eqb (length c.args.packet.now) 31 (omega arith), c.long.ensures)
