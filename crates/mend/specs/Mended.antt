@@ -1,4 +1,5 @@
--- What holds of a mended image and of the list of its changes: proved in proofs/Mended.
+-- What holds of a mended image and of the list of its changes: proved in proofs/Mended, proofs/Listed and proofs/Answers, save the last statement, of
+-- descriptors, which is not proved yet.
 use Rattle.std.specs.Prelude.{ℕ, ◌+◌, ◌<◌, ◌≤◌, ◌≡◌, ◌⊎◌, cond, List, [], ◌∷◌, length, set, ltb}
 use Rattle.rules.specs.Words.{byte, word, laid}
 use Rattle.rules.specs.Step.{Machine}
