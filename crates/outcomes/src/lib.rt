@@ -8,33 +8,31 @@ ghost use Rattle.rules.specs.Held.{configuring, in_phase, halted as marked, halt
 ghost use Rattle.rules.specs.Changes.{made};
 ghost use Rattle.rules.specs.Step.{BusReset};
 
-use rules::{Bridge, Change, Direction, Halts, Phase, answers};
+use rules::refusals::Refusal;
+use rules::{Bridge, Change, Direction, Halts, Phase};
 
-// The answer's number, how many bytes or operations were handed out, and what is changed of the bridge.
+// How many bytes or operations were handed out, or why the event was refused, and what is changed of the bridge.
 #[derive(Clone, Copy)]
 pub struct Outcome {
-    pub answer: u8,
-    pub count: u16,
+    pub answer: Result<u16, Refusal>,
     pub change: Change,
 }
 
-pub fn refused(answer: u8) -> Outcome
-    ensures { result ≡ outcome answer 0 Change.Nothing }
+pub fn refused(refusal: Refusal) -> Outcome
+    ensures { result ≡ outcome (Err refusal) Change.Nothing }
 {
     Outcome {
-        answer: answer,
-        count: 0,
+        answer: Err(refusal),
         change: Change::Nothing,
     }
 }
 
 pub fn done(count: u16, change: Change) -> Outcome
-    ensures { result ≡ outcome 0 count change }
+    ensures { result ≡ outcome (Ok count) change }
 {
     Outcome {
-        answer: answers::DONE,
-        count: count,
-        change: change,
+        answer: Ok(count),
+        change,
     }
 }
 
@@ -47,51 +45,21 @@ pub fn bus_reset() -> Outcome
 pub fn is_stopped(phase: Phase) -> bool
     ensures { result ≡ is_stopped phase }
 {
-    match phase {
-        Phase::Awaiting
-        | Phase::Busy {
-            direction: _,
-            lun: _,
-            tag: _,
-            length: _,
-        }
-        | Phase::StatusWaiting {
-            tag: _,
-            residue: _,
-            status: _,
-        } => false,
-        Phase::Stopped { reset: _ } => true,
-    }
+    matches!(phase, Phase::Stopped { .. })
 }
 
-fn in_phase(next: Phase, b: Bridge) -> Bridge
-    ensures { result ≡ in_phase next b }
+fn in_phase(phase: Phase, b: Bridge) -> Bridge
+    ensures { result ≡ in_phase phase b }
 {
-    let dock = b.dock;
-    Bridge {
-        dock: dock,
-        configured: b.configured,
-        phase: next,
-        halts: Halts {
-            outward: b.halts.outward,
-            inward: b.halts.inward,
-        },
-    }
+    Bridge { phase, ..b }
 }
 
 fn halted(outward: bool, inward: bool, b: Bridge) -> Bridge
     ensures { result ≡ marked outward inward b }
 {
-    let dock = b.dock;
-    let phase = b.phase;
     Bridge {
-        dock: dock,
-        configured: b.configured,
-        phase: phase,
-        halts: Halts {
-            outward: outward,
-            inward: inward,
-        },
+        halts: Halts { outward, inward },
+        ..b
     }
 }
 
@@ -118,15 +86,9 @@ fn clear(direction: Direction, b: Bridge) -> Bridge
 fn fresh(configured: bool, b: Bridge) -> Bridge
     ensures { result ≡ configuring configured (in_phase Phase.Awaiting (marked false false b)) }
 {
-    let dock = b.dock;
     Bridge {
-        dock: dock,
-        configured: configured,
-        phase: Phase::Awaiting,
-        halts: Halts {
-            outward: false,
-            inward: false,
-        },
+        configured,
+        ..Bridge::power_on(b.dock)
     }
 }
 
@@ -135,11 +97,9 @@ pub fn changed(change: Change, b: Bridge) -> Bridge
     ensures { result ≡ made change b }
 {
     match change {
-        Change::Nothing => b,
+        Change::Nothing | Change::Drops => b,
         Change::Sets(configured) => fresh(configured, b),
-        Change::Awaits => in_phase(Phase::Awaiting, b),
-        Change::Resets => in_phase(Phase::Awaiting, b),
-        Change::Drops => b,
+        Change::Awaits | Change::Resets => in_phase(Phase::Awaiting, b),
         Change::Begins {
             direction,
             lun,
@@ -147,10 +107,10 @@ pub fn changed(change: Change, b: Bridge) -> Bridge
             length,
         } => {
             let busy = Phase::Busy {
-                direction: direction,
-                lun: lun,
-                tag: tag,
-                length: length,
+                direction,
+                lun,
+                tag,
+                length,
             };
             in_phase(busy, b)
         }
@@ -162,9 +122,9 @@ pub fn changed(change: Change, b: Bridge) -> Bridge
             residue,
         } => {
             let waiting = Phase::StatusWaiting {
-                tag: tag,
-                residue: residue,
-                status: status,
+                tag,
+                residue,
+                status,
             };
             halt(halts, direction, in_phase(waiting, b))
         }

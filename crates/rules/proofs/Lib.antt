@@ -6,5 +6,6 @@ pub mod Changes
 pub mod Bursts
 pub mod Promises
 pub mod Replies
+pub mod Numbered
 pub mod Unique
 pub mod Demands

@@ -10,6 +10,7 @@ pub mod Operations
 pub mod Reports
 pub mod Stopping
 pub mod Step
+pub mod Numbered
 pub mod Demands
 pub mod Promise
 pub mod OneOutcome

@@ -8,18 +8,18 @@ pub struct StringIndex(pub u8);
 #[derive(Clone, Copy)]
 pub struct Address(pub u16);
 
-impl StringIndex {
-    pub fn address(self) -> Address
-        ensures { result ≡ address_of self }
+impl From<StringIndex> for Address {
+    fn from(index: StringIndex) -> Address
+        ensures { result ≡ address_of index }
     {
-        Address(2 * self.0 as u16)
+        Address(2 * index.0 as u16)
     }
 }
 
-impl Address {
-    pub fn number(self) -> u16
-        ensures { result ≡ number_of self }
+impl From<Address> for u16 {
+    fn from(address: Address) -> u16
+        ensures { result ≡ number_of address }
     {
-        self.0
+        address.0
     }
 }

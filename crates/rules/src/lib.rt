@@ -4,39 +4,35 @@
 
 ghost use Rattle.std.specs.Prelude.{◌≡◌};
 ghost use Rattle.rules.specs.Held.{drives_of, lun_number, max_lun, page_bytes, page_of, power_on, power_on_bytes};
-ghost use Rattle.rules.specs.Packets.{command_layout, inward, status_layout};
+ghost use Rattle.rules.specs.Packets.{inward};
 ghost use Rattle.rules.specs.Reports.{direction_number};
 
 pub mod addresses;
-pub mod answers;
 pub mod fields;
+pub mod refusals;
 
 use crate::addresses::{Address, StringIndex};
 
 // Where data goes, seen from the host. With L = 0 none goes, and Out stands for that.
 #[derive(Clone, Copy)]
 pub enum Direction {
-    Out,
-    In,
+    Out = 2,
+    In = 1,
 }
 
 impl Direction {
-    pub fn number(self) -> u8
-        ensures { result ≡ direction_number self }
-    {
-        match self {
-            Direction::Out => 2,
-            Direction::In => 1,
-        }
-    }
-
     pub fn is_in(self) -> bool
         ensures { result ≡ inward self }
     {
-        match self {
-            Direction::Out => false,
-            Direction::In => true,
-        }
+        matches!(self, Direction::In)
+    }
+}
+
+impl From<Direction> for u8 {
+    fn from(direction: Direction) -> u8
+        ensures { result ≡ direction_number direction }
+    {
+        direction as u8
     }
 }
 
@@ -47,14 +43,11 @@ pub enum Lun {
     Lun1,
 }
 
-impl Lun {
-    pub fn number(self) -> u8
-        ensures { result ≡ lun_number self }
+impl From<Lun> for u8 {
+    fn from(lun: Lun) -> u8
+        ensures { result ≡ lun_number lun }
     {
-        match self {
-            Lun::Lun0 => 0,
-            Lun::Lun1 => 1,
-        }
+        lun as u8
     }
 }
 
@@ -88,16 +81,24 @@ pub struct Halts {
 // Pages of the memory part, of 32, 64, 128 or 256 bytes.
 #[derive(Clone, Copy)]
 pub enum PageSize {
-    Of32,
-    Of64,
-    Of128,
-    Of256,
+    Of32 = 32,
+    Of64 = 64,
+    Of128 = 128,
+    Of256 = 256,
 }
 
-impl PageSize {
+impl From<PageSize> for u16 {
+    fn from(page: PageSize) -> u16
+        ensures { result ≡ page_bytes page }
+    {
+        page as u16
+    }
+}
+
+impl From<u32> for PageSize {
     // Another number is taken as 32, the safe one.
     #[tactic(auto, unfolding(crate::specs::Held::page_of))]
-    pub fn of(number: u32) -> Self
+    fn from(number: u32) -> PageSize
         ensures { result ≡ page_of number }
     {
         match number {
@@ -105,17 +106,6 @@ impl PageSize {
             128 => PageSize::Of128,
             256 => PageSize::Of256,
             _ => PageSize::Of32,
-        }
-    }
-
-    pub fn bytes(self) -> u16
-        ensures { result ≡ page_bytes self }
-    {
-        match self {
-            PageSize::Of32 => 32,
-            PageSize::Of64 => 64,
-            PageSize::Of128 => 128,
-            PageSize::Of256 => 256,
         }
     }
 }
@@ -127,10 +117,10 @@ pub enum Drives {
     Two,
 }
 
-impl Drives {
+impl From<u32> for Drives {
     // The number 2 says two, every other number says one.
     #[tactic(auto, unfolding(crate::specs::Held::drives_of))]
-    pub fn of(number: u32) -> Self
+    fn from(number: u32) -> Drives
         ensures { result ≡ drives_of number }
     {
         match number {
@@ -138,7 +128,9 @@ impl Drives {
             _ => Drives::One,
         }
     }
+}
 
+impl Drives {
     pub fn max_lun(self) -> u8
         ensures { result ≡ max_lun self }
     {
@@ -171,7 +163,7 @@ impl Bridge {
         ensures { result ≡ power_on dock }
     {
         Bridge {
-            dock: dock,
+            dock,
             configured: false,
             phase: Phase::Awaiting,
             halts: Halts {
@@ -280,15 +272,6 @@ impl CommandPacket {
     pub const LENGTH: usize = 31;
 
     pub const SIGNATURE: u32 = 0x43425355;
-
-    fn layout() -> Layout
-        ensures { result ≡ command_layout }
-    {
-        Layout {
-            length: Self::LENGTH,
-            signature: Self::SIGNATURE,
-        }
-    }
 }
 
 #[derive(Clone, Copy)]
@@ -307,13 +290,4 @@ impl StatusPacket {
     pub const FAILED: u8 = 1;
 
     pub const PHASE_ERROR: u8 = 2;
-
-    fn layout() -> Layout
-        ensures { result ≡ status_layout }
-    {
-        Layout {
-            length: Self::LENGTH,
-            signature: Self::SIGNATURE,
-        }
-    }
 }

@@ -1,0 +1,40 @@
+// The refusals of the paper, each with its answer number. What is done answers 0.
+ghost use Rattle.std.specs.Prelude.{◌≡◌};
+ghost use Rattle.rules.specs.Numbered.{refusal_number};
+
+#[derive(Clone, Copy)]
+pub enum Refusal {
+    SetupLength = 1,
+    HostData = 2,
+    ReplyRoom = 3,
+    Unconfigured = 4,
+    NotInTable = 5,
+    NoPlace = 6,
+    NoneFitted = 7,
+    Outside = 8,
+    NotAtEight = 9,
+    CrossesPage = 10,
+    Halted = 11,
+    NotValid = 13,
+    NotMeaningful = 14,
+    OperationRoom = 15,
+    WrongPhase = 16,
+    Malformed = 17,
+    NoDescriptor = 18,
+    PastMemory = 19,
+    CutRecord = 20,
+    UnknownKind = 21,
+    PayloadLength = 22,
+    NoRecord = 23,
+    ShortImage = 24,
+    ChangeRoom = 25,
+    RecordRoom = 29,
+}
+
+impl From<Refusal> for u8 {
+    fn from(refusal: Refusal) -> u8
+        ensures { result ≡ refusal_number refusal }
+    {
+        refusal as u8
+    }
+}
