@@ -1,10 +1,9 @@
--- Laws of a report's direction and amount: with L = 0 any amount is too much, and fewer than L only where L > 0.
+-- A law of a report's direction and amount: with L = 0 any amount is too much.
 use mathlib.Core.Path.{◌≡◌, refl}
 use mathlib.Core.Bool.{Bool, true, false, cond, not, ◌&&◌, ◌||◌}
 use Prim.Native.Nat.{ℕ}
-use native.Mathlib.Omega.{arith}
 use lib.Dec.{eqb, ltb}
-use borrow.Author.Tests.{eqb-true, lt-ltb, ltb-true}
+use borrow.Author.Tests.{eqb-true}
 use Rattle.rules.specs.declared.Direction.{Direction}
 use Rattle.rules.specs.Reports.{direction_number, mismatch}
 
@@ -26,14 +25,3 @@ mismatch_by l host direction amount = go (eqb l 0) refl
         ≡ ((ltb 0 amount && not (eqb direction (direction_number host))) || ltb l amount)
     go true e = rw (eqb-true l 0 e) (both (ltb 0 amount) _ _)
     go false e = refl
-
-pub fewer : (l amount : ℕ) → (ltb 0 l && ltb amount l) ≡ ltb amount l
-fewer l amount = go (ltb amount l) refl
-  where
-    none : (t : Bool) → (t && false) ≡ false
-    none true = refl
-    none false = refl
-
-    go : (t : Bool) → ltb amount l ≡ t → (ltb 0 l && t) ≡ t
-    go true e = rw (lt-ltb 0 l (omega (arith, ltb-true)))
-    go false e = none (ltb 0 l)

@@ -7,8 +7,10 @@ ghost use Rattle.rules.specs.Step.{Report};
 ghost use Rattle.rules.specs.Reports.{malformed, mismatch, finished};
 
 use outcomes::{Outcome, done, refused};
-use rules::{Bridge, Change, Direction, Phase, StatusPacket, answers};
+use rules::refusals::Refusal;
+use rules::{Bridge, Change, Direction, Phase, StatusPacket};
 
+#[tactic(auto, unfolding(rules::specs::Reports::malformed))]
 fn is_malformed(direction: u8, failed: u8, amount: u32) -> bool
     ensures { result ≡ malformed direction failed amount }
 {
@@ -16,10 +18,11 @@ fn is_malformed(direction: u8, failed: u8, amount: u32) -> bool
 }
 
 // The drive moved data the wrong way, or more than the host asked for. With L = 0 any amount is more.
+#[tactic(auto, using(crate::proofs::Mismatches::mismatch_by))]
 fn is_mismatch(length: u32, host: Direction, direction: u8, amount: u32) -> bool
     ensures { result ≡ mismatch length host direction amount }
 {
-    ((amount > 0) & (direction != host.number())) | (amount > length)
+    ((amount > 0) & (direction != u8::from(host))) | (amount > length)
 }
 
 // What a report changes that is not malformed, on a command of this direction, tag and L.
@@ -31,7 +34,7 @@ fn taken(host: Direction, tag: u32, length: u32, direction: u8, failed: u8, amou
             direction: host,
             halts: length > 0,
             status: StatusPacket::PHASE_ERROR,
-            tag: tag,
+            tag,
             residue: length,
         };
     }
@@ -39,7 +42,7 @@ fn taken(host: Direction, tag: u32, length: u32, direction: u8, failed: u8, amou
         direction: host,
         halts: amount < length,
         status: failed,
-        tag: tag,
+        tag,
         residue: length - amount,
     }
 }
@@ -48,27 +51,19 @@ pub fn report(b: Bridge, direction: u8, failed: u8, amount: u32) -> Outcome
     ensures { Answers b (λ n. Report direction failed amount) [] result [] }
 {
     if !b.configured {
-        return refused(answers::UNCONFIGURED);
+        return refused(Refusal::Unconfigured);
     }
-    let phase = b.phase;
-    match phase {
-        Phase::Busy {
-            direction: host,
-            lun: _,
-            tag,
-            length,
-        } => {
-            if is_malformed(direction, failed, amount) {
-                return refused(answers::MALFORMED);
-            }
-            done(0, taken(host, tag, length, direction, failed, amount))
-        }
-        Phase::Awaiting
-        | Phase::StatusWaiting {
-            tag: _,
-            residue: _,
-            status: _,
-        }
-        | Phase::Stopped { reset: _ } => refused(answers::WRONG_PHASE),
+    let Phase::Busy {
+        direction: host,
+        tag,
+        length,
+        ..
+    } = b.phase
+    else {
+        return refused(Refusal::WrongPhase);
+    };
+    if is_malformed(direction, failed, amount) {
+        return refused(Refusal::Malformed);
     }
+    done(0, taken(host, tag, length, direction, failed, amount))
 }

@@ -9,17 +9,15 @@ ghost use Rattle.rules.specs.Step.{StatusRequest};
 ghost use Rattle.rules.specs.Words.{bytes4};
 
 use outcomes::{Outcome, done, refused};
-use rules::{Bridge, Change, Phase, StatusPacket, answers};
+use rules::refusals::Refusal;
+use rules::{Bridge, Change, Phase, StatusPacket};
 
 // The four bytes of a number from `at` on, low byte first.
 fn put_long(room: &mut [u8], at: usize, n: u32)
     requires { at + 4 ≤ length room.old }
     ensures { room.new ≡ sets room.old at (bytes4 n) }
 {
-    room[at] = (n % 256) as u8;
-    room[at + 1] = (n / 256 % 256) as u8;
-    room[at + 2] = (n / 65536 % 256) as u8;
-    room[at + 3] = (n / 16777216 % 256) as u8;
+    room[at..at + 4].copy_from_slice(&n.to_le_bytes());
 }
 
 // A status packet that waits on a pipe that is not halted, written at the front of the room.
@@ -27,7 +25,7 @@ fn handed_out(p: StatusPacket, reply: &mut [u8]) -> Outcome
     ensures { (b : Bridge) → Waits b p → Answers b StatusRequest reply.old result reply.new }
 {
     if reply.len() < StatusPacket::LENGTH {
-        return refused(answers::REPLY_ROOM);
+        return refused(Refusal::ReplyRoom);
     }
     put_long(reply, 0, StatusPacket::SIGNATURE);
     put_long(reply, 4, p.tag);
@@ -40,32 +38,23 @@ pub fn status(b: Bridge, reply: &mut [u8]) -> Outcome
     ensures { Answers b StatusRequest reply.old result reply.new }
 {
     if !b.configured {
-        return refused(answers::UNCONFIGURED);
+        return refused(Refusal::Unconfigured);
     }
-    let phase = b.phase;
-    if outcomes::is_stopped(phase) | b.halts.inward {
-        return refused(answers::HALTED);
+    if outcomes::is_stopped(b.phase) | b.halts.inward {
+        return refused(Refusal::Halted);
     }
-    match phase {
-        Phase::StatusWaiting {
-            tag,
-            residue,
-            status,
-        } => {
-            let waiting = StatusPacket {
-                tag: tag,
-                residue: residue,
-                status: status,
-            };
-            handed_out(waiting, reply)
-        }
-        Phase::Awaiting
-        | Phase::Busy {
-            direction: _,
-            lun: _,
-            tag: _,
-            length: _,
-        }
-        | Phase::Stopped { reset: _ } => refused(answers::WRONG_PHASE),
-    }
+    let Phase::StatusWaiting {
+        tag,
+        residue,
+        status,
+    } = b.phase
+    else {
+        return refused(Refusal::WrongPhase);
+    };
+    let waiting = StatusPacket {
+        tag,
+        residue,
+        status,
+    };
+    handed_out(waiting, reply)
 }

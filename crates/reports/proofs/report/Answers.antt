@@ -1,9 +1,9 @@
 -- Each refusal is the first check that applies; what a report changes is what the rule says.
-use Rattle.std.proofs.Common.{◌≡◌, false, refl, sym, ◌∙◌, inl, inr}
+use Rattle.std.proofs.Common.{refl, sym, ◌∙◌}
 use borrow.Author.Tests.{not-true, not-false}
 use Rattle.rules.specs.Answers.{report_answer}
-use Rattle.rules.specs.Held.{is_busy}
 use Rattle.rules.proofs.Promises.{report_refused, report_done}
+use Rattle.outcomes.proofs.Phases.{not_busy}
 use Rattle.reports.proofs.report.Goals as goal
 
 pub returns-then-not-b : goal.returns-then-not-b
@@ -17,16 +17,15 @@ returns-then-is_malformed c =
     (report_refused _ _ _ _ 17
     (rw (not-false c.args.b.configured c.if-not-b.false, c.in-Busy.is, sym c.is_malformed.ensures ∙ c.if-is_malformed.true)) refl)
 
-pub returns-else-is_malformed : goal.returns-else-is_malformed
+pub returns-in_default : goal.returns-in_default
 unfolding report_answer
-returns-else-is_malformed c =
+returns-in_default c =
+    rw c.refused-in_default.ensures
+    (report_refused _ _ _ _ 16 (rw (not-false c.args.b.configured c.if-not-b.false, not_busy c.args.b.phase c.in_default.not-Busy)) refl)
+
+pub returns : goal.returns
+unfolding report_answer
+returns c =
     rw (c.done.ensures, c.taken.ensures)
     (report_done _ _ _ _ _ c.in-Busy.is
     (rw (not-false c.args.b.configured c.if-not-b.false, c.in-Busy.is, sym c.is_malformed.ensures ∙ c.if-is_malformed.false)))
-
-pub returns-in-Awaiting : goal.returns-in-Awaiting
-unfolding report_answer
-returns-in-Awaiting c =
-    let idle : is_busy c.args.b.phase ≡ false =
-    elim c.in-Awaiting.is [ inl e ↦ rw e | inr s ↦ elim s [ inl w ↦ rw w.3 | inr w ↦ rw w.1 ] ] in
-    rw c.refused-in-Awaiting.ensures (report_refused _ _ _ _ 16 (rw (not-false c.args.b.configured c.if-not-b.false, idle)) refl)

@@ -1,9 +1,9 @@
 -- Each refusal is the first check that applies; a packet that waits is handed out.
-use Rattle.std.proofs.Common.{◌≡◌, false, refl, inl, inr}
+use Rattle.std.proofs.Common.{refl}
 use borrow.Author.Tests.{not-true, not-false}
 use Rattle.rules.specs.Answers.{status_answer}
-use Rattle.rules.specs.Held.{is_status_waiting}
 use Rattle.rules.proofs.Promises.{status_refused}
+use Rattle.outcomes.proofs.Phases.{not_status_waiting}
 use Rattle.statuses.proofs.status.Goals as goal
 
 pub returns-then-not-b : goal.returns-then-not-b
@@ -16,11 +16,9 @@ returns-then-is_stopped-b c =
     rw c.refused-then-is_stopped-b.ensures
     (status_refused _ _ 11 (rw (not-false c.args.b.configured c.if-not-b.false, ← c.is_stopped.ensures, c.if-is_stopped-b.true)) refl)
 
-pub returns-in-Awaiting : goal.returns-in-Awaiting
+pub returns-in_default : goal.returns-in_default
 unfolding status_answer
-returns-in-Awaiting c =
-    let idle : is_status_waiting c.args.b.phase ≡ false =
-    elim c.in-Awaiting.is [ inl e ↦ rw e | inr s ↦ elim s [ inl w ↦ rw w.4 | inr w ↦ rw w.1 ] ] in
-    rw c.refused-in-Awaiting.ensures
+returns-in_default c =
+    rw c.refused-in_default.ensures
     (status_refused _ _ 16
-    (rw (not-false c.args.b.configured c.if-not-b.false, ← c.is_stopped.ensures, c.if-is_stopped-b.false, idle)) refl)
+    (rw (not-false c.args.b.configured c.if-not-b.false, ← c.is_stopped.ensures, c.if-is_stopped-b.false, not_status_waiting c.args.b.phase c.in_default.not-StatusWaiting)) refl)
