@@ -1,2 +1,1 @@
-mod Looking
 pub mod Unique

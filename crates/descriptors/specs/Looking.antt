@@ -1,13 +1,21 @@
--- What a search for a descriptor says: the number of its refusal, or where the descriptor stands and how long it is.
-use Rattle.std.specs.Prelude.{ℕ, Bool, true, cond, List}
+-- What a search for a descriptor says: where it stands and how long it is, or the number of its refusal.
+use Rattle.std.specs.Prelude.{ℕ, Bool, true, List, Result}
 use Rattle.rules.specs.declared.addresses.StringIndex.{StringIndex}
 use Rattle.rules.specs.Words.{first}
+use Rattle.rules.specs.Numbered.{told}
 use Rattle.rules.specs.Descriptors.{place_in, length_in, descriptor_checks}
-use Rattle.rules.specs.Step.{done}
-use Rattle.descriptors.specs.declared.Found.{Found}
-use Rattle.descriptors.specs.declared.Found.TheVariants.{No, At}
+use Rattle.descriptors.specs.declared.Kind.{Kind}
+use Rattle.descriptors.specs.declared.Kind.TheVariants.{Device, Configuration, String, Qualifier}
+use Rattle.descriptors.specs.declared.Part.{Part}
 
-abbrev pub looked : Bool → StringIndex → List ℕ → ℕ → Found
+-- the type byte of each kind
+abbrev pub kind_number : Kind → ℕ
+kind_number Device = 1
+kind_number Configuration = 2
+kind_number String = 3
+kind_number Qualifier = 6
+
+abbrev pub looked : Bool → StringIndex → List ℕ → ℕ → Result Part ℕ
 looked powered named memory value =
-    let answer : ℕ = first (descriptor_checks true powered named memory value) in
-    cond (done answer) (At (place_in powered named value) (length_in powered named memory value)) (No answer)
+    told (record { start = place_in powered named value; length = length_in powered named memory value })
+    (first (descriptor_checks true powered named memory value))

@@ -1,115 +1,112 @@
 // Descriptors from the memory part: whether one is there, where it stands, and the part of the memory that is told of it.
 #![tactic(auto)]
 
-ghost use Rattle.std.specs.Prelude.{◌≡◌, ◌+◌, ◌≤◌, length};
+ghost use Rattle.std.specs.Prelude.{◌≡◌, ◌+◌, ◌≤◌, length, true, false, MatchResult};
 ghost use Rattle.lent.specs.Parts.{PartOf};
-ghost use Rattle.rules.specs.Descriptors.{number_of, string_of, place_of, head_of, length_at, answered};
-ghost use Rattle.descriptors.specs.Looking.{looked};
+ghost use Rattle.rules.specs.Numbered.{numbered};
+ghost use Rattle.rules.specs.Descriptors.{number_of, place_of, head_of, length_at, answered};
+ghost use Rattle.descriptors.specs.Looking.{kind_number, looked};
 
 use rules::addresses::{Address, StringIndex};
-use rules::answers::{NO_DESCRIPTOR, PAST_MEMORY};
+use rules::refusals::Refusal;
 
-// What a search comes to: the number of its refusal, or where the descriptor stands and how long it is.
+// A part of the memory part: where it starts, and how long it is.
 #[derive(Clone, Copy)]
-pub enum Found {
-    No(u8),
-    At(Address, u16),
+pub struct Part {
+    pub start: Address,
+    pub length: u16,
 }
 
 // Descriptor types (USB 2.0, table 9-5).
-const DEVICE: u8 = 1;
-
-const CONFIGURATION: u8 = 2;
-
-const STRING: u8 = 3;
-
-const QUALIFIER: u8 = 6;
-
-// Of strings any index is answered, of the other types 0 alone.
-#[tactic(auto, unfolding(rules::specs::Descriptors::answered))]
-fn is_answered(kind: u8, index: u8) -> bool
-    ensures { result ≡ answered kind index }
-{
-    if kind == STRING {
-        return true;
-    }
-    if index != 0 {
-        return false;
-    }
-    (kind == DEVICE) | (kind == CONFIGURATION) | (kind == QUALIFIER)
+#[derive(Clone, Copy)]
+enum Kind {
+    Device = 1,
+    Configuration = 2,
+    String = 3,
+    Qualifier = 6,
 }
 
-fn string_of(first: StringIndex, index: u8) -> StringIndex
-    ensures { result ≡ string_of first index }
-{
-    if index == 0 {
-        return first;
+impl Kind {
+    // Of strings any index is answered, of the other types 0 alone.
+    #[tactic(auto, unfolding(rules::specs::Descriptors::answered))]
+    fn asked(kind: u8, index: u8) -> Result<Kind, Refusal>
+        ensures { MatchResult result (λ k. (kind_number k ≡ kind) × (answered kind index ≡ true)) (λ e. (e ≡ Refusal.NoDescriptor) × (answered kind index ≡ false)) }
+    {
+        match (kind, index) {
+            (1, 0) => Ok(Kind::Device),
+            (2, 0) => Ok(Kind::Configuration),
+            (3, _) => Ok(Kind::String),
+            (6, 0) => Ok(Kind::Qualifier),
+            _ => Err(Refusal::NoDescriptor),
+        }
     }
-    StringIndex(index)
-}
 
-#[tactic(auto, unfolding(rules::specs::Descriptors::place_of))]
-fn place(bus_powered: bool, first: StringIndex, kind: u8, index: u8) -> Address
-    ensures { result ≡ place_of bus_powered first kind index }
-{
-    match kind {
-        DEVICE => Address(0x10),
-        QUALIFIER => Address(0x22),
-        CONFIGURATION => if bus_powered {
-            Address(0x2C)
-        } else {
-            Address(0x80)
-        },
-        _ => string_of(first, index).address(),
+    #[tactic(auto, unfolding(rules::specs::Descriptors::place_of))]
+    fn place(self, index: u8, bus_powered: bool, first: StringIndex) -> Address
+        ensures { result ≡ place_of bus_powered first (kind_number self) index }
+    {
+        match self {
+            Kind::Device => Address(0x10),
+            Kind::Qualifier => Address(0x22),
+            Kind::Configuration if bus_powered => Address(0x2C),
+            Kind::Configuration => Address(0x80),
+            Kind::String if index == 0 => Address::from(first),
+            Kind::String => Address::from(StringIndex(index)),
+        }
     }
-}
 
-fn head_of(kind: u8) -> usize
-    ensures { result ≡ head_of kind }
-{
-    if kind == CONFIGURATION { 4 } else { 2 }
-}
-
-// Of a configuration the total length.
-#[tactic(auto, unfolding(rules::specs::Descriptors::length_at))]
-fn length_at(kind: u8, memory: &[u8], at: usize) -> u16
-    requires { at + head_of kind ≤ length memory.now }
-    ensures { result ≡ length_at kind memory.now at }
-{
-    if kind == CONFIGURATION {
-        return lent::word(memory[at + 2], memory[at + 3]);
+    fn head(self) -> usize
+        ensures { result ≡ head_of (kind_number self) }
+    {
+        match self {
+            Kind::Configuration => 4,
+            _ => 2,
+        }
     }
-    memory[at] as u16
+
+    // Of a configuration the total length.
+    #[tactic(auto, unfolding(rules::specs::Descriptors::length_at))]
+    fn length_at(self, memory: &[u8], at: usize) -> u16
+        requires { at + head_of (kind_number self) ≤ length memory.now }
+        ensures { result ≡ length_at (kind_number self) memory.now at }
+    {
+        match self {
+            Kind::Configuration => lent::word(memory[at + 2], memory[at + 3]),
+            _ => u16::from(memory[at]),
+        }
+    }
 }
 
 // The descriptor of a type, in the high byte, and an index, in a memory that is all fitted: checks 18, 19, 18 and 19.
-pub fn look(bus_powered: bool, first: StringIndex, memory: &[u8], value: u16) -> Found
-    ensures { result ≡ looked bus_powered first memory.now value }
+pub fn look(
+    bus_powered: bool,
+    first: StringIndex,
+    memory: &[u8],
+    value: u16,
+) -> Result<Part, Refusal>
+    ensures { numbered result ≡ looked bus_powered first memory.now value }
 {
-    let kind = (value / 256) as u8;
-    let index = (value % 256) as u8;
-    if !is_answered(kind, index) {
-        return Found::No(NO_DESCRIPTOR);
-    }
-    let address = place(bus_powered, first, kind, index);
-    let at = address.number() as usize;
-    let head = head_of(kind);
+    let [kind, index] = value.to_be_bytes();
+    let kind = Kind::asked(kind, index)?;
+    let start = kind.place(index, bus_powered, first);
+    let at = u16::from(start) as usize;
+    let head = kind.head();
     if memory.len() < at + head {
-        return Found::No(PAST_MEMORY);
+        return Err(Refusal::PastMemory);
     }
-    let n = length_at(kind, memory, at);
-    if (memory[at + 1] != kind) | ((n as usize) < head) {
-        return Found::No(NO_DESCRIPTOR);
+    let length = kind.length_at(memory, at);
+    if memory[at + 1] != kind as u8 || (length as usize) < head {
+        return Err(Refusal::NoDescriptor);
     }
-    if memory.len() < at + n as usize {
-        return Found::No(PAST_MEMORY);
+    if memory.len() < at + length as usize {
+        return Err(Refusal::PastMemory);
     }
-    Found::At(address, n)
+    Ok(Part { start, length })
 }
 
-// The caller's own slice from the descriptor's start, of n bytes and as far as it goes.
-pub fn find<'a>(memory: &'a [u8], at: Address, n: u16) -> &'a [u8]
-    ensures { PartOf memory.entry (number_of at) n result }
+// The caller's own slice, as far as it goes.
+pub fn find<'a>(memory: &'a [u8], part: Part) -> &'a [u8]
+    ensures { PartOf memory.entry (number_of part.start) part.length result }
 {
-    lent::part(memory, at.number() as usize, n as usize)
+    lent::part(memory, u16::from(part.start) as usize, part.length as usize)
 }
