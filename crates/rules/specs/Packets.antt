@@ -6,11 +6,15 @@ use Rattle.rules.specs.declared.CommandPacket.{CommandPacket}
 use Rattle.rules.specs.declared.Direction.{Direction}
 use Rattle.rules.specs.declared.Direction.TheVariants.{Out, In}
 use Rattle.rules.specs.declared.Drives.{Drives}
-use Rattle.rules.specs.declared.Layout.{Layout}
 use Rattle.rules.specs.declared.Lun.{Lun}
 use Rattle.rules.specs.declared.Lun.TheVariants.{Lun0, Lun1}
 use Rattle.rules.specs.Words.{byte, long, bytes4, bit}
 use Rattle.rules.specs.Held.{drive_count}
+
+-- what marks a kind of packet: its length, and its first four bytes as a number
+pub record Layout : Type 0 where
+  pub length : ℕ
+  pub signature : ℕ
 
 -- "A command packet is 31 bytes: 55 53 42 43, .." "A status packet is 13 bytes: 55 53 42 53, .."
 abbrev pub command_layout : Layout

@@ -197,6 +197,7 @@ pub enum Change {
         tag: u32,
         length: u32,
     },
+    // Whether the pipe halts stands apart from its direction, as in the rules' `finished` and `halting`.
     Finishes {
         direction: Direction,
         halts: bool,
@@ -230,7 +231,8 @@ pub struct Seen {
     pub first_string: StringIndex,
 }
 
-// Where what is handed out stands: at the front of the lent room, or, a part of the lent memory itself, from an address on.
+// Where what is handed out stands: at the front of the lent room, or, a part of the lent memory itself, from an address on. No Option: a None would say
+// that it stands nowhere.
 #[derive(Clone, Copy)]
 pub enum Stands {
     InRoom,
@@ -250,13 +252,6 @@ pub enum Request {
     ReadConfigData,
     SoftReset,
     BogusRead,
-}
-
-// What marks a kind of packet: its length, and its first four bytes as a number.
-#[derive(Clone, Copy)]
-pub struct Layout {
-    pub length: usize,
-    pub signature: u32,
 }
 
 #[derive(Clone, Copy)]
@@ -286,7 +281,8 @@ impl StatusPacket {
 
     pub const SIGNATURE: u32 = 0x53425355;
 
-    // The status of a command that failed, and of a phase error. One that passed has 0.
+    // The status of a command that failed, and of a phase error. One that passed has 0. Bytes and no enum: an image that C lends may hold any byte there,
+    // and the status request hands it out.
     pub const FAILED: u8 = 1;
 
     pub const PHASE_ERROR: u8 = 2;
