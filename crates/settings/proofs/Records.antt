@@ -1,17 +1,15 @@
 -- Laws of one record: what follows from its number, and what a made one reads as, with whatever stands behind it.
-use Prim.Native.Nat.{ℕ, suc, ◌+◌, ◌*◌, ◌/◌, ◌%◌, ◌<◌, ◌≤◌}
-use mathlib.Core.Path.{◌≡◌, refl, sym, ap, ◌∙◌}
-use mathlib.Core.Bool.{Bool, true, false}
+use Prim.Native.Nat.{ℕ, ◌+◌, ◌*◌, ◌/◌, ◌%◌, ◌<◌, ◌≤◌}
+use mathlib.Core.Path.{◌≡◌, refl, ap, ◌∙◌}
+use mathlib.Core.Bool.{true, false}
 use mathlib.Core.List.{List, ◌++◌}
-use native.Mathlib.Nat.{suc-ne-zero}
 use native.Mathlib.Omega.{arith}
+use Rattle.std.proofs.lemmas.Bool.Decides.{nat_tests}
 use lib.ListN.{length, take, drop, length-append, length-drop, get_or-append}
 use lib.Seq.{take-append-le, drop-append-le}
-use lib.Dec.{eqb, ltb}
-use borrow.Author.Tests.{ltb-true, eqb-false, lt-ltb, le-ltb, ltb-false, eqb-true, eq-eqb, ne_eqb}
-use Rattle.rules.specs.Words.{byte, first}
-use Rattle.settings.specs.declared.Reading.{Reading}
-use Rattle.settings.specs.Store.{length_of, kind_of, payload_of, record_of, length_for, settings_of, knows, record_checks, refused, record_read}
+use borrow.Author.Tests.{lt-ltb, le-ltb, eq-eqb, ne_eqb}
+use Rattle.rules.specs.Words.{byte}
+use Rattle.settings.specs.Store.{length_of, kind_of, payload_of, record_of, length_for, settings_of, knows, refused, record_read}
 use Rattle.settings.specs.Stores.{accepted}
 
 -- ---- what is read of a record, by what it says
@@ -35,47 +33,10 @@ module _ (k : ℕ) (s : List ℕ) {n : ℕ} (says : length_of s ≡ n) where
       unfolding record_read
       good e = rw (called, says, le-ltb (length s) (4 + n) whole, known, eq-eqb n (length_for kind) e) refl
 
--- the number that is read is that of the checks
-pub recorded : (k : ℕ) (s : List ℕ) {n : ℕ} → (record_read k s).answer ≡ n → first (record_checks k s) ≡ n
+-- one that no check refuses is all there
+pub whole : (k : ℕ) (s : List ℕ) → (record_read k s).answer ≡ 0 → 4 + length_of s ≤ length s
 unfolding record_read
-recorded k s e = e
-
-pub numbered : (k : ℕ) (s : List ℕ) {r : Reading} → record_read k s ≡ r → r.answer ≡ first (record_checks k s)
-numbered k s e = sym (recorded k s (ap (λ (r : Reading). r.answer) e))
-
--- a record that no check refuses
-pub record Fine (k : ℕ) (s : List ℕ) : Type 0 where
-  pub whole : 4 + length_of s ≤ length s
-  pub known : knows k (kind_of s) ≡ true
-  pub fits : length_of s ≡ length_for (kind_of s)
-
-module _ (k : ℕ) (s : List ℕ) (passes : first (record_checks k s) ≡ 0) where
-  not_refused : {number : ℕ} → record_read k s ≡ refused (suc number) → ⊥
-  not_refused {number} e = suc-ne-zero number (numbered k s e ∙ passes)
-
-  whole : 4 + length_of s ≤ length s
-  whole = go (ltb (length s) (4 + length_of s)) refl
-    where
-      go : (t : Bool) → ltb (length s) (4 + length_of s) ≡ t → 4 + length_of s ≤ length s
-      go true e = absurd (not_refused (cut k s refl (ltb-true (length s) (4 + length_of s) e)))
-      go false e = ltb-false (length s) (4 + length_of s) e
-
-  known : knows k (kind_of s) ≡ true
-  known = go (knows k (kind_of s)) refl
-    where
-      go : (t : Bool) → knows k (kind_of s) ≡ t → knows k (kind_of s) ≡ true
-      go true e = e
-      go false e = absurd (not_refused (unknown k s refl whole refl e))
-
-  fits : length_of s ≡ length_for (kind_of s)
-  fits = go (eqb (length_of s) (length_for (kind_of s))) refl
-    where
-      go : (t : Bool) → eqb (length_of s) (length_for (kind_of s)) ≡ t → length_of s ≡ length_for (kind_of s)
-      go true e = eqb-true (length_of s) (length_for (kind_of s)) e
-      go false e = absurd (not_refused (other_length k s refl whole refl known (eqb-false (length_of s) (length_for (kind_of s)) e)))
-
-  pub fine : Fine k s
-  fine = record { whole = whole; known = known; fits = fits }
+whole k s passes = grind (arith, nat_tests)
 
 -- ---- a record as it is made, of a payload whose length two bytes can say
 

@@ -17,10 +17,9 @@ use Rattle.rules.specs.Held.{page_bytes, page_of}
 use Rattle.rules.specs.Step.{done}
 use Rattle.rules.proofs.Pages.{in_32s}
 use Rattle.rules.proofs.Demands.Pages.{numbers_are_taken}
-use Rattle.settings.specs.declared.Reading.{Reading}
-use Rattle.settings.specs.Store.{length_of, payload_of, record_of, settings_from, length_for, settings_of, knows, record_checks, hidden, refused, record_read, read_on, read_by, newest, payload_for, written}
+use Rattle.settings.specs.Store.{Reading, length_of, payload_of, record_of, settings_from, length_for, settings_of, knows, record_checks, hidden, refused, record_read, read_on, read_by, newest, payload_for, written}
 use Rattle.settings.specs.Stores.{accepted, Good, LastCounts, RecordIsRead, OtherByteIs32, SettingsComeBack, RoomIsExact, Unfamiliar, UnfamiliarIsRefused, CutIsRefused, OtherLengthIsRefused, NothingIsRefused, RefusedShowsNothing}
-use Rattle.settings.proofs.Records.{fine, recorded, cut, unknown, other_length, good as record-good, length_alone, record_alone, made_length, made_kind, made_whole}
+use Rattle.settings.proofs.Records.{whole, cut, unknown, other_length, good as record-good, length_alone, record_alone, made_length, made_kind, made_whole}
 
 -- ---- one record, and what is behind it
 
@@ -72,7 +71,7 @@ fronts k zero so_far (b ∷ front) rest inside good = go (done r.answer) refl go
         → (ahead ≤ length front → (read_on k ahead r front).answer ≡ 0 → read_on k ahead r (front ++ rest) ≡ read_on k 0 (read_on k ahead r front) rest)
         → read_on k 0 so_far (b ∷ (front ++ rest)) ≡ read_on k 0 (cond t (read_on k ahead r front) r) rest
     go true e good behind =
-        let whole : 4 + length_of (b ∷ front) ≤ length (b ∷ front) = (fine k (b ∷ front) (recorded k (b ∷ front) (eqb-true r.answer 0 e))).whole in
+        let whole : 4 + length_of (b ∷ front) ≤ length (b ∷ front) = whole k (b ∷ front) (eqb-true r.answer 0 e) in
         rw (record_alone (b ∷ front) rest whole k, length_alone (b ∷ front) rest whole)
         (chosen (done r.answer) (read_on k ahead r (front ++ rest)) r e ∙ behind (omega arith) good)
     go false e good behind = absurd (eqb-false r.answer 0 e good)

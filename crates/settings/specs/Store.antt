@@ -1,12 +1,16 @@
 -- A settings store: request 5 of document 02, in its order and words, and what request 6 makes of the last byte.
-use Rattle.std.specs.Prelude.{ℕ, zero, suc, ◌+◌, ◌*◌, ◌/◌, ◌%◌, Bool, cond, not, ◌&&◌, ◌||◌, List, [], ◌∷◌, ◌++◌, length, take, drop, eqb, leb, ltb}
+use Rattle.std.specs.Prelude.{ℕ, zero, suc, ◌+◌, ◌*◌, ◌/◌, ◌%◌, Bool, cond, not, ◌&&◌, ◌||◌, List, [], ◌∷◌, ◌++◌, length, take, drop, eqb, leb, ltb, Result}
+use Rattle.std.specs.Result.{result_unwrap_or}
 use Rattle.rules.specs.Words.{byte, word, Check, ◌if◌, first, laid}
 use Rattle.rules.specs.declared.PageSize.{PageSize}
 use Rattle.rules.specs.declared.PageSize.TheVariants.{Of32, Of256}
 use Rattle.rules.specs.Held.{page_bytes, page_of, defaults}
+use Rattle.rules.specs.Numbered.{answer_of}
+use Rattle.rules.specs.declared.refusals.Refusal.{Refusal}
 use Rattle.rules.specs.Step.{done}
+use Rattle.settings.specs.declared.Kind.{Kind}
+use Rattle.settings.specs.declared.Kind.TheVariants.{Plain, Paged}
 use Rattle.settings.specs.declared.Settings.{Settings}
-use Rattle.settings.specs.declared.Reading.{Reading}
 
 -- ---- "A store is a run of records: payload length (2, low first), kind (2, low first), payload."
 
@@ -38,6 +42,11 @@ length_for kind = cond (eqb kind 0x0101) 14 15
 abbrev pub settings_of : ℕ → List ℕ → Settings
 settings_of kind payload = settings_from (take 14 payload) (cond (eqb kind 0x0101) Of256 (page_of (32 * byte 14 payload)))
 
+-- the number of a kind
+abbrev pub kind_number : Kind → ℕ
+kind_number Plain = 0x0101
+kind_number Paged = 0x0102
+
 -- The reader of an edition knows the kinds that there are up to its newest, k.
 abbrev pub knows : ℕ → ℕ → Bool
 knows k kind = leb kind k && (eqb kind 0x0101 || eqb kind 0x0102)
@@ -57,8 +66,17 @@ record_checks k s =
 abbrev pub hidden : Settings
 hidden = settings_from defaults Of32
 
+-- what a store says: its number, and where that is 0 the settings, else the defaults
+pub record Reading : Type 0 where
+  pub answer : ℕ
+  pub settings : Settings
+
 abbrev pub refused : ℕ → Reading
 refused number = record { answer = number; settings = hidden }
+
+-- .. as a result tells it
+abbrev pub reading : Result Settings Refusal → Reading
+reading r = record { answer = answer_of r; settings = result_unwrap_or r hidden }
 
 unfoldable pub record_read : ℕ → List ℕ → Reading
 record_read k s =

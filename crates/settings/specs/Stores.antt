@@ -4,8 +4,7 @@ use Rattle.rules.specs.declared.PageSize.{PageSize}
 use Rattle.rules.specs.declared.PageSize.TheVariants.{Of32, Of256}
 use Rattle.rules.specs.Held.{page_bytes}
 use Rattle.settings.specs.declared.Settings.{Settings}
-use Rattle.settings.specs.declared.Reading.{Reading}
-use Rattle.settings.specs.Store.{length_of, kind_of, record_of, settings_from, length_for, refused, read_by, newest, record_length, written, wrote, written_in}
+use Rattle.settings.specs.Store.{Reading, length_of, kind_of, record_of, settings_from, length_for, refused, read_by, newest, record_length, written, wrote, written_in}
 
 -- good settings: number 0
 abbrev pub accepted : Settings → Reading

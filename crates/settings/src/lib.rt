@@ -1,13 +1,16 @@
 // Settings that field service keeps: a store of them is read, and a record of them is written.
 #![tactic(auto)]
 
-ghost use Rattle.std.specs.Prelude.{◌≡◌, ◌*◌, ◌/◌, length};
+ghost use Rattle.std.specs.Prelude.{◌≡◌, ◌+◌, ◌*◌, ◌/◌, false, eqb, not, [], ◌∷◌, drop, length, MatchResult};
 ghost use Rattle.rules.specs.Held.{page_bytes, page_of};
-ghost use Rattle.rules.specs.Words.{first};
-ghost use Rattle.settings.specs.Store.{length_for, settings_of, kind_of, payload_of, record_checks, hidden, refused as refusal, record_read, read_by, newest, written, wrote, written_in};
+ghost use Rattle.rules.specs.Numbered.{numbered, told, answer_of};
+ghost use Rattle.rules.specs.Words.{◌if◌, first};
+ghost use Rattle.rules.specs.declared.refusals.Refusal.TheVariants.{UnknownKind};
+ghost use Rattle.settings.specs.Store.{length_of, kind_number, length_for, knows, settings_of, hidden, reading, record_read, read_by, newest, written, wrote, written_in};
 
+use rules::PageSize;
 use rules::fields::FIRST_SETTING;
-use rules::{PageSize, answers};
+use rules::refusals::Refusal;
 
 // The bytes for configuration addresses 2 to F, and the page size.
 #[derive(Clone, Copy)]
@@ -16,157 +19,127 @@ pub struct Settings {
     pub page: PageSize,
 }
 
-// What a store says: its number, and where that is 0 the settings, else the defaults.
-#[derive(Clone, Copy)]
-pub struct Reading {
-    pub answer: u8,
-    pub settings: Settings,
+// What a refused store shows: the defaults, and the safe page size.
+impl Default for Settings {
+    ghost is_default = { λ settings. settings ≡ hidden };
+
+    fn default() -> Settings {
+        let mut bytes = [0; 14];
+        bytes.copy_from_slice(&rules::power_on_bytes()[FIRST_SETTING..]);
+        Settings {
+            bytes,
+            page: PageSize::Of32,
+        }
+    }
 }
 
-// The head of a record: payload length and kind.
-const HEAD: usize = 4;
-
 // The kinds of record: the fourteen bytes, and these with the page size.
-const PLAIN: u16 = 0x0101;
+#[derive(Clone, Copy)]
+enum Kind {
+    Plain = 0x0101,
+    Paged = 0x0102,
+}
 
-const PAGED: u16 = 0x0102;
+// Check 21.
+impl TryFrom<u16> for Kind {
+    type Error = Refusal;
+
+    ghost try_from_gives = { λ number found. MatchResult found (λ kind. kind_number kind ≡ number) (λ refusal. (refusal ≡ UnknownKind) × (knows newest number ≡ false)) };
+
+    fn try_from(number: u16) -> Result<Kind, Refusal> {
+        match number {
+            0x0101 => Ok(Kind::Plain),
+            0x0102 => Ok(Kind::Paged),
+            _ => Err(Refusal::UnknownKind),
+        }
+    }
+}
+
+// The last byte of a paged record: the page size divided by 32.
+#[derive(Clone, Copy)]
+struct PageByte(u8);
+
+impl From<PageByte> for PageSize {
+    fn from(last: PageByte) -> PageSize
+        ensures { result ≡ page_of (32 * last.0) }
+    {
+        PageSize::from(32 * u32::from(last.0))
+    }
+}
+
+impl From<PageSize> for PageByte {
+    fn from(page: PageSize) -> PageByte
+        ensures { result.0 ≡ page_bytes page / 32 }
+    {
+        PageByte((u16::from(page) / 32) as u8)
+    }
+}
+
+// The settings of a record: check 22.
+fn settings_in(kind: Kind, payload: &[u8]) -> Result<Settings, Refusal>
+    ensures { numbered result ≡ told (settings_of (kind_number kind) payload.now) (first (22 if not (eqb (length payload.now) (length_for (kind_number kind))) ∷ [])) }
+{
+    let (&bytes, behind) = payload.split_first_chunk().ok_or(Refusal::PayloadLength)?;
+    let page = match (kind, behind) {
+        (Kind::Plain, []) => PageSize::Of256,
+        (Kind::Paged, &[last]) => PageSize::from(PageByte(last)),
+        _ => return Err(Refusal::PayloadLength),
+    };
+    Ok(Settings { bytes, page })
+}
+
+// The settings of the record at the front of a store, and what stands behind it: checks 20, 21 and 22.
+#[tactic(auto, unfolding(crate::specs::Store::record_read))]
+fn read_record(store: &[u8]) -> Result<(Settings, &[u8]), Refusal>
+    ensures { MatchResult result (λ r. (reading (Ok r.0) ≡ record_read newest store.now) × (r.1.now ≡ drop (4 + length_of store.now) store.now)) (λ refusal. reading (Err refusal) ≡ record_read newest store.now) }
+{
+    let &[l0, l1, k0, k1, ref rest @ ..] = store else {
+        return Err(Refusal::CutRecord);
+    };
+    let length = u16::from_le_bytes([l0, l1]) as usize;
+    if rest.len() < length {
+        return Err(Refusal::CutRecord);
+    }
+    let (payload, behind) = rest.split_at(length);
+    let kind = Kind::try_from(u16::from_le_bytes([k0, k1]))?;
+    Ok((settings_in(kind, payload)?, behind))
+}
+
+// Record by record from the front; the last one is the settings.
+#[tactic(auto, using(crate::proofs::Stores::onward, crate::proofs::Stores::ends), unfolding(crate::specs::Store::read_on))]
+pub fn read(store: &[u8]) -> Result<Settings, Refusal>
+    ensures { reading result ≡ read_by newest store.now }
+{
+    let mut last = Err(Refusal::NoRecord);
+    let mut rest = store;
+    while !rest.is_empty() {
+        let (settings, behind) = read_record(rest)?;
+        last = Ok(settings);
+        rest = behind;
+    }
+    last
+}
 
 // What a written record takes.
 pub const RECORD: usize = 19;
 
-fn length_of(kind: u16) -> u16
-    ensures { result ≡ length_for kind }
-{
-    if kind == PLAIN { 14 } else { 15 }
-}
-
-// The record at the front of a store: checks 20, 21 and 22.
-fn judge(store: &[u8]) -> u8
-    ensures { result ≡ first (record_checks newest store.now) }
-{
-    if store.len() < HEAD {
-        return answers::CUT_RECORD;
-    }
-    let length = lent::word(store[0], store[1]);
-    if store.len() - HEAD < length as usize {
-        return answers::CUT_RECORD;
-    }
-    let kind = lent::word(store[2], store[3]);
-    if (kind != PLAIN) & (kind != PAGED) {
-        return answers::UNKNOWN_KIND;
-    }
-    if length != length_of(kind) {
-        return answers::PAYLOAD_LENGTH;
-    }
-    answers::DONE
-}
-
-// The page size, from the last byte of a record and for it.
-fn page_from(last: u8) -> PageSize
-    ensures { result ≡ page_of (32 * last) }
-{
-    PageSize::of(32 * last as u32)
-}
-
-fn last_for(page: PageSize) -> u8
-    ensures { result ≡ page_bytes page / 32 }
-{
-    (page.bytes() / 32) as u8
-}
-
-fn defaults() -> Settings
-    ensures { result ≡ hidden }
-{
-    let mut bytes = [0; 14];
-    lent::copy(
-        &mut bytes,
-        0,
-        lent::part(&rules::power_on_bytes(), FIRST_SETTING, 14),
-    );
-    Settings {
-        bytes: bytes,
-        page: PageSize::Of32,
-    }
-}
-
-fn refused(answer: u8) -> Reading
-    ensures { result ≡ refusal answer }
-{
-    Reading {
-        answer: answer,
-        settings: defaults(),
-    }
-}
-
-// The settings of the record at the front of a store, which no check refuses.
-fn settings_in(store: &[u8]) -> Settings
-    requires { first (record_checks newest store.now) ≡ 0 }
-    ensures { result ≡ settings_of (kind_of store.now) (payload_of store.now) }
-{
-    let mut bytes = [0; 14];
-    lent::copy(&mut bytes, 0, &store[HEAD..HEAD + 14]);
-    let page = if lent::word(store[2], store[3]) == PLAIN {
-        PageSize::Of256
-    } else {
-        page_from(store[HEAD + 14])
-    };
-    Settings {
-        bytes: bytes,
-        page: page,
-    }
-}
-
-fn read_record(store: &[u8]) -> Reading
-    ensures { result ≡ record_read newest store.now }
-{
-    let answer = judge(store);
-    if answer != answers::DONE {
-        return refused(answer);
-    }
-    Reading {
-        answer: answer,
-        settings: settings_in(store),
-    }
-}
-
-// Record by record from the front; the last one is the settings.
-pub fn read(store: &[u8]) -> Reading
-    ensures { result ≡ read_by newest store.now }
-{
-    let mut found = refused(answers::NO_RECORD);
-    let mut at = 0;
-    while at < store.len() {
-        found = read_record(&store[at..]);
-        if found.answer != answers::DONE {
-            return found;
-        }
-        at += HEAD + lent::word(store[at], store[at + 1]) as usize;
-    }
-    found
-}
-
-// A record of the newest kind.
+// A record of the newest kind: payload length, kind, payload.
 fn record_of(settings: Settings) -> [u8; RECORD]
     ensures { result ≡ written settings }
 {
-    let mut made = [0; RECORD];
-    made[0] = 15;
-    made[2] = (PAGED % 256) as u8;
-    made[3] = (PAGED / 256) as u8;
-    let bytes = settings.bytes;
-    lent::copy(&mut made, HEAD, &bytes);
-    let page = settings.page;
-    made[RECORD - 1] = last_for(page);
-    made
+    let mut record = [0; RECORD];
+    record[..2].copy_from_slice(&15u16.to_le_bytes());
+    record[2..4].copy_from_slice(&(Kind::Paged as u16).to_le_bytes());
+    record[4..18].copy_from_slice(&settings.bytes);
+    record[18] = PageByte::from(settings.page).0;
+    record
 }
 
 // One record, at the front of the room.
-pub fn write(settings: Settings, room: &mut [u8]) -> u8
-    ensures { wrote result room.new ≡ written_in settings room.old }
+pub fn write(settings: Settings, room: &mut [u8]) -> Result<(), Refusal>
+    ensures { wrote (answer_of result) room.new ≡ written_in settings room.old }
 {
-    if room.len() < RECORD {
-        return answers::RECORD_ROOM;
-    }
-    lent::copy(room, 0, &record_of(settings));
-    answers::DONE
+    let front = room.first_chunk_mut().ok_or(Refusal::RecordRoom)?;
+    *front = record_of(settings);
+    Ok(())
 }
