@@ -2,7 +2,7 @@
 use mathlib.Core.Path.{◌≡◌, refl, sym, ap, subst, ◌∙◌}
 use mathlib.Core.Bool.{Bool, true, false, cond}
 use mathlib.Core.List.{List, [], ◌∷◌, ◌++◌, append-nil, append_assoc}
-use Prim.Native.Nat.{ℕ, zero, suc, ◌+◌, ◌<◌, ◌≤◌}
+use Prim.Native.Nat.{ℕ, ◌+◌, ◌<◌, ◌≤◌}
 use native.Mathlib.Omega.{arith}
 use lib.Dec.{leb, ltb}
 use lib.ListN.{length, set, take, drop, length-set, length-take, length-append, length-drop}
@@ -14,18 +14,21 @@ use Rattle.rules.specs.Bursts.{kept}
 use Rattle.rules.proofs.Bursts.{held_whole, held_too_long, held_behind}
 use Rattle.rules.proofs.Rows.{over-length, over-laid, over_pastes}
 use Rattle.image.proofs.Rows.{by_bytes, copied_back}
-use Rattle.image.specs.Image.{held_of, world_of, added, BurstInStep, BehindTheCount}
+use Rattle.image.specs.Image.{world_of, added, BurstInStep, BehindTheCount}
 
 -- ---- how a burst is added
 
-module _ (burst image : List ℕ) {came : List ℕ} {n : ℕ} (cut : came ≡ take 32 burst) (counted : n ≡ byte 61 image) where
+module _ (burst image : List ℕ) {came : List ℕ} (cut : came ≡ take 32 burst) where
+  abbrev n : ℕ
+  n = byte 61 image
+
   pub too_much : 31 < n + length came → set image 61 32 ≡ added burst image
-  too_much h = rw (← counted, lt-ltb 31 (n + length burst) (omega (arith, ap length cut, length-take 32 burst)))
+  too_much h = rw (lt-ltb 31 (n + length burst) (omega (arith, ap length cut, length-take 32 burst)))
 
   pub fits : n + length came ≤ 31 → length image ≡ 62 → over (set image 61 (n + length came)) 30 (take 31 (over (drop 30 image) n came)) ≡ added burst image
   fits h long =
       let whole : came ≡ burst = cut ∙ take_all 32 burst (omega (arith, ap length cut, length-take 32 burst)) in
-      rw (← whole, ← counted, le-ltb 31 (n + length came) h)
+      rw (← whole, le-ltb 31 (n + length came) h)
       (copied_back image (over (drop 30 image) n came) (n + length came) long (omega (arith, over-length (drop 30 image) n came, length-drop 30 image)))
 
 pub added-length : (burst image : List ℕ) → length (added burst image) ≡ length image
@@ -52,19 +55,6 @@ held_counted s h = go (leb (length s) 31) refl
     go false e =
         let more = leb-false (length s) 31 e in
         ap length (held_too_long s (omega arith)) ∙ omega arith
-
-take_again : (n : ℕ) (s : List ℕ) → take (length (take n s)) s ≡ take n s
-take_again zero s = refl
-take_again (suc n) [] = refl
-take_again (suc n) (x ∷ s) = ap (λ (l : List ℕ). x ∷ l) (take_again n s)
-
--- what is held, by value, is so held
-pub held_by_value : (image : List ℕ) → length (drop 30 image) ≡ 32 → held_of image ≡ kept (take (length (held_of image)) (drop 30 image))
-held_by_value image h =
-    let n : ℕ = byte 61 image in
-    let s : List ℕ = take n (drop 30 image) in
-    ap kept (sym (take_again n (drop 30 image)))
-    ∙ ap (λ (k : ℕ). kept (take k (drop 30 image))) (sym (held_counted s (omega (arith, length-take n (drop 30 image)))))
 
 -- a row over another as long
 over_all : (row xs : List ℕ) → length xs ≡ length row → over row 0 xs ≡ xs
@@ -99,7 +89,7 @@ module _ (image : List ℕ) (h : length image ≡ 62) where
   tail_length : length (drop 30 image) ≡ 32
   tail_length = omega (arith, length-drop 30 image)
 
-  count_in_tail : byte 61 image ≡ byte 31 (drop 30 image)
+  pub count_in_tail : byte 61 image ≡ byte 31 (drop 30 image)
   count_in_tail = by_bytes 62 image h (λ i. byte 61 i ≡ byte 31 (drop 30 i)) refl
 
   set_in_tail : (v : ℕ) → set image 61 v ≡ take 30 image ++ set (drop 30 image) 31 v

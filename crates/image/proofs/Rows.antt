@@ -1,9 +1,9 @@
--- An image, byte by byte: what holds of its bytes in a row holds of it; what a store leaves before it; what is copied out, and back.
+-- An image, byte by byte: what holds of its bytes in a row holds of it; what a store leaves before it; what is copied back.
 use mathlib.Core.Path.{◌≡◌, refl, sym, ap, subst}
 use mathlib.Core.List.{List, [], ◌∷◌, ◌++◌}
 use Prim.Native.Nat.{ℕ, zero, suc, ◌+◌, ◌≤◌}
 use native.Mathlib.Omega.{arith}
-use lib.ListN.{length, set, take, drop, replicate, drop_of_length-le}
+use lib.ListN.{length, set, take, drop, drop_of_length-le}
 use lib.Seq.{drop-cons, get_or-set_other}
 use Rattle.rules.specs.Words.{byte, over}
 
@@ -33,12 +33,7 @@ over-front (r ∷ front) rest zero (x ∷ xs) h = ap (λ (l : List ℕ). x ∷ l
 over-front [] rest (suc at) xs h = absurd (omega arith)
 over-front (r ∷ front) rest (suc at) xs h = ap (λ (l : List ℕ). r ∷ l) (over-front front rest at xs (omega arith))
 
--- its last 32 bytes, copied out
-pub copied_out : (image : List ℕ) → length image ≡ 62 → over (replicate 32 0) 0 (take 32 (drop 30 image)) ≡ drop 30 image
-unfolding over
-copied_out image h = by_bytes 62 image h (λ i. over (replicate 32 0) 0 (take 32 (drop 30 i)) ≡ drop 30 i) refl
-
--- .. and back: a count is stored and then the 31 bytes before it, or all 32 and then a count
+-- a count is stored and then the 31 bytes before it, or the last 32 bytes and then a count
 pub copied_back : (image tail : List ℕ) (n : ℕ) → length image ≡ 62 → length tail ≡ 32 → over (set image 61 n) 30 (take 31 tail) ≡ set (over image 30 tail) 61 n
 unfolding over
 copied_back image tail n h long =

@@ -2,7 +2,7 @@
 use mathlib.Core.Path.{refl, ap}
 use mathlib.Core.List.{List}
 use Prim.Native.Nat.{ℕ}
-use Rattle.rules.specs.OneOutcome.{OneOutcome}
+use Rattle.rules.specs.OneOutcome.{OneOutcome, OnePart}
 use Rattle.rules.proofs.Unique.{only}
 use Rattle.image.proofs.power_on as PowerOn
 use Rattle.image.proofs.power_on_with as PowerOnWith
@@ -10,6 +10,7 @@ use Rattle.image.proofs.signature_of as SignatureOf
 use Rattle.image.proofs.drives_of as DrivesOf
 use Rattle.image.proofs.seen as Seen
 use Rattle.image.proofs.load as Load
+use Rattle.image.proofs.Fragments.bytes as FragmentsBytes
 use Rattle.image.proofs.held as Held
 use Rattle.image.proofs.hold as Hold
 use Rattle.image.proofs.make as Make
@@ -34,6 +35,9 @@ load κs a r r' left left' p q = (only p q, refl)
 
 pub make : OneOutcome Make.Kinds.ps Make.Kinds.r Make.Reads.Post
 make κs a r r' left left' p q = (refl, ap (λ (now : List ℕ). (now, (tt, tt))) (only p q))
+
+pub Fragments::bytes : OnePart FragmentsBytes.Kinds.ps FragmentsBytes.Kinds.r (λ κs r. r) FragmentsBytes.Reads.Post
+Fragments::bytes κs a r r' left left' p q = (only p.1 q.1, only p.0 q.0, refl)
 
 pub held : OneOutcome Held.Kinds.ps Held.Kinds.r Held.Reads.Post
 held κs a r r' left left' p q = (only p q, refl)

@@ -1,18 +1,19 @@
 // The image of a bridge with its configuration bytes and what it holds of a packet in bursts: sixty-two bytes, read, and changed in place.
 #![tactic(auto)]
 
-ghost use Rattle.std.specs.Prelude.{◌≡◌, [], set, drop};
+ghost use Rattle.std.specs.Prelude.{◌≡◌, ◌+◌, ◌≤◌, [], cond, set, drop};
 ghost use Rattle.rules.specs.Words.{long, byte};
 ghost use Rattle.rules.specs.Held.{starting, by_default};
 ghost use Rattle.rules.specs.Answers.{seen_of};
 ghost use Rattle.rules.specs.Packets.{signature_of};
-ghost use Rattle.image.specs.Image.{bytes_of, is_marked, direction_from, lun_from, phase_from, page_code, page_from, drives_from, dock_byte, dock_of, decode, world_of, held_in, powered, numbered, phased, marked, dropped, calm, put, added};
+ghost use Rattle.image.specs.Image.{bytes_of, is_marked, is_odd, phase_from, page_code, page_from, dock_byte, dock_of, decode, world_of, held_in, powered, numbered, phased, marked, dropped, calm, put, added};
 
 use rules::addresses::StringIndex;
 use rules::fields::{FIRST_SETTING, FIRST_STRING};
 use rules::{
     Bridge, Change, CommandPacket, Direction, Dock, Drives, Halts, Lun, PageSize, Phase, Seen,
 };
+use std::marker::Model;
 
 pub const IMAGE: usize = 62;
 
@@ -40,6 +41,7 @@ const HELD: usize = 30;
 
 const COUNT: usize = 61;
 
+// The C interface fixes the phase's byte, where every other is a stop: numbers, and no enum.
 const AWAITING: u8 = 0;
 
 const BUSY: u8 = 1;
@@ -48,16 +50,35 @@ const STATUS_WAITING: u8 = 2;
 
 const STOPPED: u8 = 3;
 
-// The count of what is more than a packet.
-const TOO_LONG: u8 = 32;
+// The count of what is more than a packet, which is too long by a byte or by more.
+const TOO_LONG: usize = 32;
 
-// What is held, with room for a byte more than a packet has, and how much of it counts.
-#[derive(Clone, Copy)]
+// What is held, by value, as it lies in the image: bytes, and behind them how many count. It shows as those that count; where these are more than a
+// packet has, the count itself is the byte too many.
+#[derive(Drop)]
 pub struct Fragments {
-    pub bytes: [u8; 32],
-    pub count: usize,
+    bytes: [u8; TOO_LONG],
 }
 
+impl Model for Fragments {
+    ghost use Rattle.std.specs.Prelude.{List, ℕ, take, slice_index};
+
+    ghost Value = { List ℕ };
+
+    ghost view = { λ f. take (slice_index f.bytes 31) f.bytes };
+}
+
+impl Fragments {
+    pub fn bytes(&self) -> &[u8]
+        ensures told { result.now ≡ self.now }
+        ensures points { result.ref_ptr ≡ self.entry.ref_ptr }
+    {
+        let count = self.bytes[COUNT - HELD] as usize;
+        &self.bytes[..count.min(TOO_LONG)]
+    }
+}
+
+// Neither type is this crate's, so the code of C's image can be no From of either.
 fn page_code(page: PageSize) -> u8
     ensures { result ≡ page_code page }
 {
@@ -80,25 +101,22 @@ fn page_from(code: u8) -> PageSize
     }
 }
 
-fn drives_from(bits: u8) -> Drives
-    ensures { result ≡ drives_from bits }
+// The lowest bit says which of two.
+fn chosen<T: Copy>(bits: u8, zero: T, one: T) -> T
+    ensures { result ≡ cond (is_odd bits) one zero }
 {
-    if bits % 2 == 1 {
-        return Drives::Two;
-    }
-    Drives::One
+    if bits % 2 == 1 { one } else { zero }
 }
 
 // What is fixed at power-on, as a byte: the page size below, above it whether the dock is bus powered, and the highest LUN.
 fn dock_byte(dock: Dock) -> u8
     ensures { result ≡ dock_byte dock }
 {
-    let page = dock.page;
-    let drives = dock.drives;
-    page_code(page) + 4 * dock.bus_powered as u8 + 8 * drives.max_lun()
+    page_code(dock.page) + 4 * dock.bus_powered as u8 + 8 * dock.drives.max_lun()
 }
 
 // Whatever it held, an image is that of a dock's bridge at power-on.
+#[tactic(auto, unfolding(rules::specs::Words::over))]
 pub fn power_on(image: &mut [u8; IMAGE], dock: Dock)
     ensures { image.new ≡ powered (by_default dock) }
 {
@@ -115,40 +133,22 @@ pub fn power_on_with(image: &mut [u8; IMAGE], dock: Dock, settings: &[u8; 14])
     lent::copy(image, FIRST_SETTING, settings);
 }
 
-fn direction_from(detail: u8) -> Direction
-    ensures { result ≡ direction_from detail }
-{
-    if detail % 2 == 1 {
-        return Direction::In;
-    }
-    Direction::Out
-}
-
-fn lun_from(bits: u8) -> Lun
-    ensures { result ≡ lun_from bits }
-{
-    if bits % 2 == 1 {
-        return Lun::Lun1;
-    }
-    Lun::Lun0
-}
-
 // Direction and LUN are read beforehand: then no arm does more than put a phase together, and none costs a jump.
 fn phase_from(kind: u8, detail: u8, tag: u32, amount: u32) -> Phase
     ensures { result ≡ phase_from kind detail tag amount }
 {
-    let direction = direction_from(detail);
-    let lun = lun_from(detail / 2);
+    let direction = chosen(detail, Direction::Out, Direction::In);
+    let lun = chosen(detail / 2, Lun::Lun0, Lun::Lun1);
     match kind {
         AWAITING => Phase::Awaiting,
         BUSY => Phase::Busy {
-            direction: direction,
-            lun: lun,
-            tag: tag,
+            direction,
+            lun,
+            tag,
             length: amount,
         },
         STATUS_WAITING => Phase::StatusWaiting {
-            tag: tag,
+            tag,
             residue: amount,
             status: detail,
         },
@@ -158,21 +158,11 @@ fn phase_from(kind: u8, detail: u8, tag: u32, amount: u32) -> Phase
     }
 }
 
-fn tag_of(image: &[u8; IMAGE]) -> u32
-    ensures { result ≡ long 16 image.now }
+fn number_at(image: &[u8; IMAGE], at: usize) -> u32
+    requires { at + 4 ≤ 62 }
+    ensures { result ≡ long at image.now }
 {
-    lent::long(image[TAG], image[TAG + 1], image[TAG + 2], image[TAG + 3])
-}
-
-fn amount_of(image: &[u8; IMAGE]) -> u32
-    ensures { result ≡ long 20 image.now }
-{
-    lent::long(
-        image[AMOUNT],
-        image[AMOUNT + 1],
-        image[AMOUNT + 2],
-        image[AMOUNT + 3],
-    )
+    lent::long(image[at], image[at + 1], image[at + 2], image[at + 3])
 }
 
 pub fn signature_of(image: &[u8; IMAGE]) -> u8
@@ -194,7 +184,7 @@ fn dock_of(image: &[u8; IMAGE]) -> Dock
     Dock {
         bus_powered: fixed / 4 % 2 == 1,
         page: page_from(fixed % 4),
-        drives: drives_from(fixed / 8),
+        drives: chosen(fixed / 8, Drives::One, Drives::Two),
     }
 }
 
@@ -202,8 +192,7 @@ fn dock_of(image: &[u8; IMAGE]) -> Dock
 pub fn drives_of(image: &[u8; IMAGE]) -> Drives
     ensures { result ≡ (decode image.now).dock.drives }
 {
-    let dock = dock_of(image);
-    dock.drives
+    dock_of(image).drives
 }
 
 // What a control request is judged by.
@@ -211,11 +200,10 @@ pub fn seen(image: &[u8; IMAGE]) -> Seen
     ensures { result ≡ seen_of (world_of image.now []) }
 {
     let dock = dock_of(image);
-    let page = dock.page;
     Seen {
         configured: is_configured(image),
         bus_powered: dock.bus_powered,
-        page: page,
+        page: dock.page,
         first_string: StringIndex(image[FIRST_STRING]),
     }
 }
@@ -224,8 +212,8 @@ pub fn seen(image: &[u8; IMAGE]) -> Seen
 pub fn load(image: &[u8; IMAGE]) -> Bridge
     ensures { result ≡ decode image.now }
 {
-    let tag = tag_of(image);
-    let amount = amount_of(image);
+    let tag = number_at(image, TAG);
+    let amount = number_at(image, AMOUNT);
     Bridge {
         dock: dock_of(image),
         configured: is_configured(image),
@@ -237,18 +225,10 @@ pub fn load(image: &[u8; IMAGE]) -> Bridge
     }
 }
 
-fn count_of(image: &[u8; IMAGE]) -> u8
-    ensures { result ≡ byte 61 image.now }
-{
-    image[COUNT]
-}
-
-fn held_bytes(image: &[u8; IMAGE]) -> [u8; 32]
+fn held_bytes(image: &[u8; IMAGE]) -> [u8; TOO_LONG]
     ensures { result ≡ drop 30 image.now }
 {
-    let mut bytes = [0; 32];
-    lent::copy(&mut bytes, 0, lent::part(image, HELD, 32));
-    bytes
+    <[u8; TOO_LONG]>::try_from(&image[HELD..]).unwrap()
 }
 
 // What is held, by value: so it can be judged while the image is changed.
@@ -256,11 +236,7 @@ pub fn held(image: &[u8; IMAGE]) -> Fragments
     ensures { result ≡ held_in image.now }
 {
     let bytes = held_bytes(image);
-    let count = lent::part(&bytes, 0, count_of(image) as usize).len();
-    Fragments {
-        bytes: bytes,
-        count: count,
-    }
+    Fragments { bytes }
 }
 
 // A burst is held behind what is held; where that is more than a packet, that it is too long. No more of it is looked at than makes it so. The count is
@@ -268,11 +244,11 @@ pub fn held(image: &[u8; IMAGE]) -> Fragments
 pub fn hold(image: &mut [u8; IMAGE], burst: &[u8])
     ensures { image.new ≡ added burst.now image.old }
 {
-    let came = lent::part(burst, 0, TOO_LONG as usize);
-    let n = count_of(image) as usize;
+    let came = lent::part(burst, 0, TOO_LONG);
+    let n = image[COUNT] as usize;
     let all = n + came.len();
     if all > CommandPacket::LENGTH {
-        image[COUNT] = TOO_LONG;
+        image[COUNT] = TOO_LONG as u8;
         return;
     }
     let mut bytes = held_bytes(image);
@@ -299,12 +275,8 @@ fn put_halt(image: &mut [u8; IMAGE], direction: Direction, mark: u8)
     ensures { image.new ≡ marked direction mark image.old }
 {
     match direction {
-        Direction::Out => {
-            image[OUTWARD] = mark;
-        }
-        Direction::In => {
-            image[INWARD] = mark;
-        }
+        Direction::Out => image[OUTWARD] = mark,
+        Direction::In => image[INWARD] = mark,
     }
 }
 
@@ -321,20 +293,27 @@ fn drop_held(image: &mut [u8; IMAGE])
     image[COUNT] = 0;
 }
 
-// Awaiting, no halts, nothing held.
+// Awaiting, nothing held.
+fn put_reset(image: &mut [u8; IMAGE])
+    ensures { image.new ≡ put Change.Resets image.old }
+{
+    image[PHASE] = AWAITING;
+    drop_held(image);
+}
+
+// .. and no halts.
 fn put_calm(image: &mut [u8; IMAGE])
     ensures { image.new ≡ calm image.old }
 {
     put_halts(image, 0);
-    image[PHASE] = AWAITING;
-    drop_held(image);
+    put_reset(image);
 }
 
 // A command begins. Its numbers are stored last: behind them the phase's last store was shared with that of a stop, by a jump.
 fn put_begun(image: &mut [u8; IMAGE], direction: Direction, lun: Lun, tag: u32, length: u32)
     ensures { image.new ≡ put (Change.Begins direction lun tag length) image.old }
 {
-    put_phase(image, BUSY, direction.is_in() as u8 + 2 * lun.number());
+    put_phase(image, BUSY, direction.is_in() as u8 + 2 * u8::from(lun));
     put_numbers(image, tag, length);
 }
 
@@ -366,13 +345,8 @@ pub fn make(image: &mut [u8; IMAGE], change: Change)
             image[CONFIGURED] = configured as u8;
             put_calm(image);
         }
-        Change::Awaits => {
-            image[PHASE] = AWAITING;
-        }
-        Change::Resets => {
-            image[PHASE] = AWAITING;
-            drop_held(image);
-        }
+        Change::Awaits => image[PHASE] = AWAITING,
+        Change::Resets => put_reset(image),
         Change::Drops => drop_held(image),
         Change::Begins {
             direction,
