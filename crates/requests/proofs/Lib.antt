@@ -1,4 +1,1 @@
-mod Addresses
-mod Finding
-mod Judging
 pub mod Unique
