@@ -8,7 +8,7 @@ use native.Mathlib.Nat.{add-zero, zero-add, suc-add, add-suc}
 use native.Mathlib.Omega.{arith}
 use native.Mathlib.Numerals.{add-one}
 use lib.ListN.{length, set, take, drop, take-append-drop, length-drop, get_or-append, get_or-eq_default}
-use lib.Seq.{ext_get_or, length-take-le, get_or-take, get_or-drop, drop_at, paste, paste-zero, paste-suc, length-paste}
+use lib.Seq.{ext_get_or, length-take-le, get_or-take, get_or-drop, drop_at, paste, paste-suc, length-paste}
 use lib.Dec.{eqb, leb, ltb}
 use borrow.Author.Tests.{eqb-true, eqb-false, eq-eqb, ne_eqb, leb-false, le-leb, lt-leb, ltb-true, ltb-false}
 use Rattle.rules.specs.Words.{byte}
@@ -266,9 +266,6 @@ module _ (image : List ℕ) (n : ℕ) (h : n ≤ length image) where
       go : (k : ℕ) (t : Bool) → ltb k n ≡ t → (byte k (half image n) ≡ byte k image) ⊎ (byte k (half image n) ≡ byte k (mended image))
       go k true e = inr (half_done k (ltb-true k n e))
       go k false e = inl (half_ahead k (ltb-false k n e))
-
-pub half_none : (image : List ℕ) → image ≡ half image 0
-half_none image = paste-zero image 0 (mended image)
 
 pub half_all : (image : List ℕ) → half image 0x89 ≡ mended image
 half_all image = ap (λ (l : List ℕ). take 0x89 (mended image) ++ l) (sym (mended_beyond image)) ∙ take-append-drop 0x89 (mended image)

@@ -1,7 +1,7 @@
 -- Laws of the list of changes: of two images in parts, and of a mended image from its front.
-use Prim.Native.Nat.{ℕ, suc, ◌+◌, ◌<◌, ◌≤◌}
+use Prim.Native.Nat.{ℕ, zero, suc, ◌+◌, ◌<◌, ◌≤◌}
 use mathlib.Core.Path.{◌≡◌, refl, sym, ap, ◌∙◌}
-use mathlib.Core.Bool.{Bool, true, false, cond}
+use mathlib.Core.Bool.{Bool, true, false, cond, not}
 use mathlib.Core.List.{List, [], ◌∷◌, ◌++◌, append-nil}
 use native.Mathlib.Nat.{add-zero, zero-add, suc-add, add-suc}
 use native.Mathlib.Omega.{arith}
@@ -11,7 +11,9 @@ use lib.Seq.{length-take-le, take-suc}
 use lib.Dec.{eqb}
 use borrow.Author.Tests.{eq-eqb, ne_eqb}
 use Rattle.rules.specs.Words.{byte}
-use Rattle.mend.specs.Mend.{mended, Changed, changed, changes_from, changes}
+use Rattle.std.specs.List.{filter, enumerate_from}
+use Rattle.mend.specs.Mend.{fixed_bytes, set_by, each_byte, fixed, judged_by, mended, Changed, changed, changes_from, changes}
+use Rattle.mend.specs.Wanted.{wanted_at, unlike}
 use Rattle.mend.proofs.Bytes.{mended-length, mended_beyond}
 
 -- in parts
@@ -79,12 +81,33 @@ module _ (image : List ℕ) where
         → changes_to image (n + 1) ≡ changes_to image n ++ changed n (byte n image) (byte n (mended image)) ∷ []
     changed_more e = one_more ∙ rw (ne_eqb (byte n image) (byte n (mended image)) (λ z. e (sym z))) refl
 
-    -- counted, of what stands there once the image is mended
-    module _ {m : ℕ} (there : m ≡ byte n (mended image)) {k : ℕ} (so_far : k ≡ length (changes_to image n)) where
-      pub count_same : m ≡ byte n image → k ≡ length (changes_to image (n + 1))
-      count_same e = so_far ∙ sym (ap length (same_more (sym there ∙ e)))
+-- ---- counted byte by byte
 
-      pub count_changed : (m ≡ byte n image → ⊥) → k + 1 ≡ length (changes_to image (n + 1))
-      count_changed e =
-          let one : List Changed = changed n (byte n image) (byte n (mended image)) ∷ [] in
-          sym (ap length (changed_more (λ z. e (there ∙ z))) ∙ length-append (changes_to image n) one ∙ ap (λ (j : ℕ). j + 1) (sym so_far))
+mended_each : (image : List ℕ) → mended image ≡ each_byte (wanted_at image) 0 image
+unfolding mended wanted_at
+mended_each image = go 0 image
+  where
+    go : (a : ℕ) (bs : List ℕ) → each_byte (judged_by (fixed image)) a (each_byte (set_by fixed_bytes) a bs) ≡ each_byte (λ a b. judged_by (fixed image) a (set_by fixed_bytes a b)) a bs
+    go a [] = refl
+    go a (b ∷ bs) = ap (λ (l : List ℕ). judged_by (fixed image) a (set_by fixed_bytes a b) ∷ l) (go (suc a) bs)
+
+take_each : (f : ℕ → ℕ → ℕ) (n a : ℕ) (bs : List ℕ) → take n (each_byte f a bs) ≡ each_byte f a (take n bs)
+take_each f zero a bs = refl
+take_each f (suc n) a [] = refl
+take_each f (suc n) a (b ∷ bs) = ap (λ (l : List ℕ). f a b ∷ l) (take_each f n (suc a) bs)
+
+counted_each : (f : ℕ → ℕ → ℕ) (a : ℕ) (bs : List ℕ)
+    → length (changes_from a bs (each_byte f a bs)) ≡ length (filter (λ p. not (eqb p.1 (f p.0 p.1))) (enumerate_from a bs))
+counted_each f a [] = refl
+counted_each f a (b ∷ bs) = rw add-one (go (eqb b (f a b)) _ _ (counted_each f (suc a) bs))
+  where
+    go : (t : Bool) (cs : List Changed) (ps : List (ℕ × ℕ)) → length cs ≡ length ps
+        → length (cond t cs (changed a b (f a b) ∷ cs)) ≡ length (cond (not t) ((a, b) ∷ ps) ps)
+    go true cs ps e = e
+    go false cs ps e = ap suc e
+
+pub counted : (image : List ℕ) → 0x89 ≤ length image → length (unlike image) ≡ length (changes image)
+counted image long =
+    sym (counted_each (wanted_at image) 0 (take 0x89 image))
+    ∙ ap (λ (l : List ℕ). length (changes_from 0 (take 0x89 image) l)) (sym (take_each (wanted_at image) 0x89 0 image) ∙ ap (take 0x89) (sym (mended_each image)))
+    ∙ ap length (front_all image long)

@@ -1,2 +1,3 @@
 pub mod Mend
 pub mod Mended
+pub mod Wanted

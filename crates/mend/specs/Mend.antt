@@ -1,9 +1,10 @@
 -- A spoiled image is mended: request 8 of document 02, in its order and words.
-use Rattle.std.specs.Prelude.{ℕ, suc, ◌+◌, ◌*◌, Bool, cond, not, ◌&&◌, ◌||◌, List, [], ◌∷◌, map, length, eqb, leb, ltb}
+use Rattle.std.specs.Prelude.{ℕ, suc, ◌+◌, ◌*◌, Bool, cond, not, ◌&&◌, ◌||◌, List, [], ◌∷◌, map, length, eqb, leb, ltb, Result}
 use Rattle.rules.specs.Words.{byte, Check, ◌if◌, first, laid}
 use Rattle.rules.specs.Descriptors.{index, address_of, number_of}
+use Rattle.rules.specs.Numbered.{answer_of, count_of}
+use Rattle.rules.specs.declared.refusals.Refusal.{Refusal}
 use Rattle.rules.specs.Step.{done}
-use Rattle.mend.specs.declared.Mending.{Mending}
 
 -- ---- "sets the bytes which allow one answer only: 0x10 to 0x12, 0x11 to 0x01, 0x22 to 0x0A, 0x23 to 0x06, 0x2B to 0; 0x2C and 0x80 to 0x09; 0x2D and
 -- 0x81 to 0x02; 0x31 and 0x85 to 0x02"
@@ -84,8 +85,16 @@ abbrev pub mend_checks : List ℕ → ℕ → List Check
 mend_checks image room = 24 if ltb (length image) 0x89 ∷ 25 if ltb room (length (changes image)) ∷ []
 
 -- a number, and how many changes are listed
+pub record Mending : Type 0 where
+  pub answer : ℕ
+  pub changes : ℕ
+
 abbrev pub mending : ℕ → ℕ → Mending
 mending answer changes = record { answer = answer; changes = changes }
+
+-- .. as a result tells them
+abbrev pub mending_of : Result ℕ Refusal → Mending
+mending_of r = mending (answer_of r) (count_of r)
 
 -- what a mending comes to, with the image and the list as they are left
 pub record Left : Type 0 where

@@ -1,19 +1,13 @@
 // A spoiled image of a memory part is mended, and what is changed is listed.
 #![tactic(auto)]
 
-ghost use Rattle.std.specs.Prelude.{◌≡◌, ◌+◌, ◌*◌, ◌<◌, ◌≤◌, cond, length};
-ghost use Rattle.rules.specs.Words.{byte, laid};
-ghost use Rattle.mend.specs.Mend.{fixed_bytes, set_by, fixed as fixes, lost, mended, changed, changes, entry, entries, mending, left, mends};
+ghost use Rattle.std.specs.Prelude.{◌≡◌, ◌≤◌, cond, length};
+ghost use Rattle.rules.specs.Words.{laid};
+ghost use Rattle.mend.specs.Mend.{fixed_bytes, set_by, fixed as fixes, lost, mended, changed, changes, entry, entries, mending_of, left, mends};
+ghost use Rattle.mend.specs.Wanted.{wanted_at, unlike};
 
-use rules::addresses::StringIndex;
-use rules::answers;
-
-// What a mending comes to: its number, and how many changes are listed.
-#[derive(Clone, Copy)]
-pub struct Mending {
-    pub answer: u8,
-    pub changes: usize,
-}
+use rules::addresses::{Address, StringIndex};
+use rules::refusals::Refusal;
 
 // The shortest image that is mended. All that is set lies within it.
 const SHORTEST: usize = 0x89;
@@ -39,25 +33,22 @@ fn fixed(at: usize, byte: u8) -> u8
 }
 
 // A string index, or 0 where it names no string of the image with the fixed bytes set.
+#[tactic(auto, using(crate::proofs::Bytes::lost_outside, crate::proofs::Bytes::lost_inside))]
 fn judged(image: &[u8], index: u8) -> u8
     ensures { result ≡ cond (lost (fixes image.now) index) 0 index }
 {
-    let second = StringIndex(index).address().number() as usize + 1;
-    if image.len() <= second {
-        return 0;
+    let second = u16::from(Address::from(StringIndex(index))) as usize + 1;
+    match image.get(second) {
+        Some(&byte) if fixed(second, byte) == STRING => index,
+        _ => 0,
     }
-    if fixed(second, image[second]) != STRING {
-        return 0;
-    }
-    index
 }
 
-// What stands at an address once the image is mended.
-fn wanted(image: &[u8], at: usize) -> u8
-    requires { at < length image.now }
-    ensures { result ≡ byte at (mended image.now) }
+// What stands at an address once the image is mended, of the byte that stands there.
+#[tactic(auto, unfolding(crate::specs::Mend::judged_by, crate::specs::Wanted::wanted_at))]
+fn wanted(image: &[u8], at: usize, byte: u8) -> u8
+    ensures { result ≡ wanted_at image.now at byte }
 {
-    let byte = image[at];
     match at {
         0x32 | 0x86 => judged(image, byte),
         _ => fixed(at, byte),
@@ -67,22 +58,30 @@ fn wanted(image: &[u8], at: usize) -> u8
 // How many bytes of an image are to change.
 fn count(image: &[u8]) -> usize
     requires { 0x89 ≤ length image.now }
-    ensures { result ≡ length (changes image.now) }
+    ensures { result ≡ length (unlike image.now) }
 {
-    let mut n = 0;
-    for at in 0..SHORTEST {
-        if wanted(image, at) != image[at] {
-            n += 1;
-        }
-    }
-    n
+    image[..SHORTEST]
+        .iter()
+        .enumerate()
+        .filter(|&(at, &byte)| byte != wanted(image, at, byte))
+        .count()
 }
 
-fn change(at: usize, old: u8, new: u8) -> u32
-    requires { at < 0x89 }
-    ensures { result ≡ entry (changed at old new) }
-{
-    65536 * at as u32 + 256 * old as u32 + new as u32
+// A change of an image: an address, the byte that stood there, and the new one.
+#[derive(Clone, Copy)]
+struct Change {
+    address: u8,
+    old: u8,
+    new: u8,
+}
+
+// As C lends the list, a change is one number.
+impl From<Change> for u32 {
+    fn from(change: Change) -> u32
+        ensures { result ≡ entry (changed change.address change.old change.new) }
+    {
+        u32::from_be_bytes([0, change.address, change.old, change.new])
+    }
 }
 
 // Sets every byte that is to change, and lists it.
@@ -90,12 +89,14 @@ fn set(image: &mut [u8], list: &mut [u32]) -> usize
     requires { (0x89 ≤ length image.old) × (length (changes image.old) ≤ length list.old) }
     ensures { (result ≡ length (changes image.old)) × (image.new ≡ mended image.old) × (list.new ≡ laid (entries image.old) list.old) }
 {
+    // By hand, as many as are listed: beside list.iter_mut() an invariant cannot say what stands in the list.
     let mut n = 0;
     for at in 0..SHORTEST {
         let old = image[at];
-        let new = wanted(image, at);
+        let new = wanted(image, at, old);
         if new != old {
-            list[n] = change(at, old, new);
+            let address = at as u8;
+            list[n] = u32::from(Change { address, old, new });
             image[at] = new;
             n += 1;
         }
@@ -103,27 +104,16 @@ fn set(image: &mut [u8], list: &mut [u32]) -> usize
     n
 }
 
-fn refused(answer: u8) -> Mending
-    ensures { result ≡ mending answer 0 }
-{
-    Mending {
-        answer: answer,
-        changes: 0,
-    }
-}
-
 // Mends an image where it lies, and lists its changes at the front of the list, rising: checks 24 and 25.
-pub fn mend(image: &mut [u8], list: &mut [u32]) -> Mending
-    ensures { left result image.new list.new ≡ mends image.old list.old }
+#[tactic(auto, using(crate::proofs::Changes::counted))]
+pub fn mend(image: &mut [u8], list: &mut [u32]) -> Result<usize, Refusal>
+    ensures { left (mending_of result) image.new list.new ≡ mends image.old list.old }
 {
     if image.len() < SHORTEST {
-        return refused(answers::SHORT_IMAGE);
+        return Err(Refusal::ShortImage);
     }
     if list.len() < count(image) {
-        return refused(answers::CHANGE_ROOM);
+        return Err(Refusal::ChangeRoom);
     }
-    Mending {
-        answer: answers::DONE,
-        changes: set(image, list),
-    }
+    Ok(set(image, list))
 }
