@@ -1,8 +1,9 @@
 -- From the judgement of a request to what it leaves: refused, granted and served, or found.
-use mathlib.Core.Path.{◌≡◌, refl, sym, ◌∙◌, subst}
+use mathlib.Core.Path.{◌≡◌, refl, sym, subst}
 use mathlib.Core.Bool.{Bool, true, false, true≢false}
 use mathlib.Core.List.{List}
 use Prim.Native.Nat.{ℕ}
+use Rattle.std.specs.Prelude.{Result, Ok, Err}
 use lib.ListN.{length}
 use borrow.Author.Tests.{eqb-true}
 use Rattle.rules.specs.declared.Change.TheVariants.{Nothing}
@@ -15,16 +16,16 @@ use Rattle.rules.specs.Step.{Control, done}
 use Rattle.rules.specs.Promise.{left_at, left, leaves, served}
 use Rattle.rules.proofs.Checks.{request_undamaged, request_passed}
 use Rattle.rules.proofs.Promises.{control_answer, control_refused, control_done, control_found}
-use Rattle.requests.specs.declared.Judgement.{Judgement}
-use Rattle.requests.specs.declared.Judgement.TheVariants.{Refused, Granted, Found}
+use Rattle.requests.specs.declared.Granted.{Granted}
+use Rattle.requests.specs.declared.Granted.TheVariants.{Request, Descriptor}
 use Rattle.requests.specs.Judgements.{judged, judged_as}
 
 module _ (w : World) (setup host room : List ℕ) where
   -- what the bridge leaves, by the judgement
-  abbrev By : Judgement → Type 0
-  By (Refused n) = left n 0 Nothing w.bytes w.memory room ≡ leaves w (Control setup host) room
-  By (Granted r s) = length w.bytes ≡ 16 → served r s host w room ≡ leaves w (Control setup host) room
-  By (Found at n) = left_at (InMemory at) 0 n Nothing w.bytes w.memory room ≡ leaves w (Control setup host) room
+  abbrev By : Result Granted ℕ → Type 0
+  By (Err n) = left n 0 Nothing w.bytes w.memory room ≡ leaves w (Control setup host) room
+  By (Ok (Request r s)) = length w.bytes ≡ 16 → served r s host w room ≡ leaves w (Control setup host) room
+  By (Ok (Descriptor part)) = left_at (InMemory part.start) 0 part.length Nothing w.bytes w.memory room ≡ leaves w (Control setup host) room
 
   right : By (judged (seen_of w) w.memory (control_answer w setup host room) (setup_of setup))
   right = go (request_of s) refl (done answer) refl
@@ -35,7 +36,7 @@ module _ (w : World) (setup host room : List ℕ) where
       answer : ℕ
       answer = control_answer w setup host room
 
-      refuses : done answer ≡ false → By (Refused answer)
+      refuses : done answer ≡ false → By (Err answer)
       refuses d =
           rw (request_undamaged (seen_of w) w.memory setup (length host) (length room))
           at (control_refused w setup host room answer refl d)
@@ -51,5 +52,5 @@ module _ (w : World) (setup host room : List ℕ) where
       go Describes e true d = rw d (control_found w setup host room e (eqb-true answer 0 d))
       go Describes e false d = rw d (refuses d)
 
-  pub by_judgement : {j i : Judgement} → j ≡ judged (seen_of w) w.memory (control_answer w setup host room) (setup_of setup) → j ≡ i → By i
-  by_judgement e k = subst By (sym e ∙ k) right
+  pub by_judgement : {j : Result Granted ℕ} → j ≡ judged (seen_of w) w.memory (control_answer w setup host room) (setup_of setup) → By j
+  by_judgement e = subst By (sym e) right

@@ -1,3 +1,2 @@
 pub mod Granting
-mod Numbers
 pub mod Unique

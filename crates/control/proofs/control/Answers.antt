@@ -4,24 +4,21 @@ use Rattle.rules.specs.Held.{world}
 use Rattle.control.proofs.Granting.{by_judgement}
 use Rattle.control.proofs.control.Goals as goal
 
-pub returns-in-Refused : goal.returns-in-Refused
-returns-in-Refused c =
+pub returns-in-Err : goal.returns-in-Err
+returns-in-Err c =
     let a = c.args in
-    rw (c.standing.ensures, c.refused.ensures)
-    (by_judgement (world a.b a.bytes.now a.memory.now) a.setup.now a.host.now a.reply.now
-    (rw c.seen.ensures at c.judge-judgement.ensures) c.in-Refused.is)
+    rw c.refused.ensures
+    (by_judgement (world a.b a.bytes.now a.memory.now) a.setup.now a.host.now a.reply.now (rw c.seen.ensures at c.in-Err.ensures))
 
-pub returns-in-Granted : goal.returns-in-Granted
-returns-in-Granted c =
+pub returns-in-Ok-Request : goal.returns-in-Ok-Request
+returns-in-Ok-Request c =
     let a = c.args in
-    rw c.standing-in-Granted.ensures
-    (c.serve-o.ensures
-    ∙ by_judgement (world a.b a.bytes.now a.memory.now) a.setup.now a.host.now a.reply.now
-    (rw c.seen.ensures at c.judge-judgement.ensures) c.in-Granted.is (search rules))
+    c.serve.ensures
+    ∙ by_judgement (world a.b a.bytes.now a.memory.now) a.setup.now a.host.now a.reply.now (rw (c.seen.ensures, c.in-Ok-Request.field-0-is) at c.in-Ok-Request.ensures)
+    (search rules)
 
-pub returns-in-Found : goal.returns-in-Found
-returns-in-Found c =
+pub returns-in-Ok-Descriptor : goal.returns-in-Ok-Descriptor
+returns-in-Ok-Descriptor c =
     let a = c.args in
-    rw (c.standing-in-Found.ensures, c.replied.ensures)
-    (by_judgement (world a.b a.bytes.now a.memory.now) a.setup.now a.host.now a.reply.now
-    (rw c.seen.ensures at c.judge-judgement.ensures) c.in-Found.is)
+    rw c.done.ensures
+    (by_judgement (world a.b a.bytes.now a.memory.now) a.setup.now a.host.now a.reply.now (rw (c.seen.ensures, c.in-Ok-Descriptor.field-0-is) at c.in-Ok-Descriptor.ensures))
