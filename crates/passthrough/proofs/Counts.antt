@@ -1,5 +1,5 @@
 -- Bits and tests as numbers, how many operations a block makes as the code counts them, and how many at most.
-use mathlib.Core.Path.{◌≡◌, refl, sym, ap, ◌∙◌}
+use mathlib.Core.Path.{◌≡◌, refl, ap, ◌∙◌}
 use mathlib.Core.Bool.{Bool, true, false, not}
 use mathlib.Core.List.{List}
 use Prim.Native.Nat.{ℕ, suc, ◌+◌, ◌-◌, ◌/◌, ◌^◌, ◌≤◌, ◌<◌}
@@ -35,33 +35,24 @@ ones-tally block h =
     ap ones whole
     ∙ rw (ones_from 0 n, ones_from 1 n, ones_from 2 n, ones_from 3 n, ones_from 4 n, ones_from 5 n, ones_from 6 n, ones_from 7 n, none, ones_zero)
 
-one-not : (n : ℕ) → n < 2 → one (not (eqb n 1)) ≡ 1 - n
-one-not n h = go (eqb n 1) refl
+one_not : (n : ℕ) → n < 2 → one (not (eqb n 1)) ≡ 1 - n
+one_not n h = go (eqb n 1) refl
   where
     go : (t : Bool) → eqb n 1 ≡ t → one (not t) ≡ 1 - n
     go true e = rw (eqb-true n 1 e)
     go false e = let other : n ≡ 1 → ⊥ = eqb-false n 1 e in omega arith
 
--- the seven registers that a write block may write, and register 6
-seven_eight : (a b c d e f g h : ℕ) → a + (b + (c + (d + (e + (f + (h + 0)))))) + g ≡ a + (b + (c + (d + (e + (f + (g + (h + 0)))))))
-seven_eight a b c d e f g h = omega arith
-
--- the sum of a write block's parts: poll p, seven registers t, transfer m, the select and read 7
-written : (p b t g n m : ℕ) → p ≡ 1 - b → b < 2 → t + g ≡ n → p + 2 + t + m ≡ 2 - b + n + 1 - g + m
-written p b t g n m hp hb hn = omega arith
-
 module _ (lun : Lun) (block : List ℕ) (l : ℕ) (d : Direction) (h : byte 3 block < 256) where
   pub count_read : bit 0 (action block) ≡ true → length (operations_of lun block l d) ≡ 2 - bit_of 2 (action block) + ones (byte 3 block)
-  count_read e = omega (arith, ((counted lun block l d).0 (eqb-true _ 1 e)).0, one-not (bit_of 2 (action block)) (omega arith), ones-tally block h)
+  count_read e = omega (arith, ((counted lun block l d).0 (eqb-true _ 1 e)).0, one_not (bit_of 2 (action block)) (omega arith), ones-tally block h)
 
   pub count_write : bit 0 (action block) ≡ false
       → length (operations_of lun block l d)
       ≡ 2 - bit_of 2 (action block) + ones (byte 3 block) + 1 - bit_of 6 (byte 3 block) + bool_byte (ltb 0 l)
   count_write e =
       let other : bit_of 0 (action block) ≡ 1 → ⊥ = eqb-false _ 1 e in
-      let registers = seven_eight _ _ _ _ _ _ _ _ ∙ sym (ones-tally block h) in
       rw (bool_byte_lem (ltb 0 l))
-      (((counted lun block l d).1 (omega arith)).0 ∙ written _ _ _ _ _ _ (one-not (bit_of 2 (action block)) (omega arith)) (omega arith) registers)
+      (omega (arith, ((counted lun block l d).1 (omega arith)).0, one_not (bit_of 2 (action block)) (omega arith), ones-tally block h))
 
 -- "At most 11 operations"
 pub most : (lun : Lun) (block : List ℕ) (l : ℕ) (d : Direction) → length (operations_of lun block l d) ≤ 11
@@ -70,3 +61,5 @@ most lun block l d = go (bit 0 (action block)) refl
     go : (t : Bool) → bit 0 (action block) ≡ t → length (operations_of lun block l d) ≤ 11
     go true e = omega (arith, ((counted lun block l d).0 (eqb-true _ 1 e)).1)
     go false e = let other : bit_of 0 (action block) ≡ 1 → ⊥ = eqb-false _ 1 e in ((counted lun block l d).1 (omega arith)).1
+
+pub ruleset counts = (most, count_read, count_write)

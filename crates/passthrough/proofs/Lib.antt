@@ -1,4 +1,3 @@
 mod Counts
-mod Laws
-mod Rows
+mod Growing
 pub mod Unique

@@ -1,0 +1,80 @@
+-- A row that grows: what stands behind what, the room that it takes, and what the registers make, one by one.
+use Rattle.std.proofs.Common.{◌≡◌, refl, sym, ap, arith, ℕ, suc, ◌+◌, ◌≤◌, ◌<◌, List, [], ◌∷◌, ◌++◌, length, length-append, append_assoc, add-one, add-zero, zero-add, add-suc, suc-add, add_assoc}
+use Rattle.std.proofs.Math.ListN.{set}
+use Rattle.std.proofs.Math.Seq.{sets, sets-eq, length-sets}
+use native.Mathlib.Decide.{le_ind}
+use native.Mathlib.Nat.{le_refl}
+use Rattle.rules.specs.Words.{laid}
+use Rattle.rules.specs.Operations.{Operation, code, codes, writes, reads}
+use Rattle.passthrough.specs.declared.rows.Row.{Row}
+use Rattle.passthrough.specs.Rows.{after, rising}
+
+pub length_codes : (os : List Operation) → length (codes os) ≡ length os
+length_codes [] = refl
+length_codes (o ∷ os) = ap suc (length_codes os)
+
+sets_append : (xs ys : List Operation) (l : List ℕ) (i : ℕ) → sets l i (codes (xs ++ ys)) ≡ sets (sets l i (codes xs)) (i + length xs) (codes ys)
+sets_append [] ys l i = rw add-zero
+sets_append (x ∷ xs) ys l i = rw (add-suc, ← suc-add) (sets_append xs ys (set l i (code x)) (suc i))
+
+-- operations behind operations, and none
+pub after_after : (xs ys : List Operation) (row : Row) → after ys (after xs row) ≡ after (xs ++ ys) row
+unfolding after
+after_after xs ys row = rw (sets_append, length-append, add_assoc)
+
+pub after_none : (row : Row) → after [] row ≡ row
+unfolding after
+after_none row = rw add-zero
+
+-- the same room, of the same length, and the next place behind them
+pub name_after : (os : List Operation) (row : Row) → (after os row).room.ghost_name ≡ row.room.ghost_name
+unfolding after
+name_after os row = refl
+
+pub room_after : (os : List Operation) (row : Row) → length (after os row).room.now ≡ length row.room.now
+unfolding after
+room_after os row = length-sets row.room.now row.at (codes os)
+
+pub at_after : (os : List Operation) (row : Row) → (after os row).at ≡ row.at + length os
+unfolding after
+at_after os row = refl
+
+-- what stands behind nothing is laid at the front of the room
+pub after_laid : (os : List Operation) (row : Row) → row.at ≡ 0 → length os ≤ length row.room.now → (after os row).room.now ≡ laid (codes os) row.room.now
+unfolding after
+after_laid os row none h = rw (none, sets-eq (codes os) row.room.now 0 (rw (length_codes os, zero-add) h), zero-add)
+
+-- what a row needs that grows, and one that is made whole
+pub ruleset rows = (after_after, after_none, room_after, at_after, length-append)
+
+pub ruleset whole_rows = (rows, name_after, after_laid, zero-add)
+
+-- ---- one register more, and the room for it
+
+writes_append : (block xs ys : List ℕ) → writes block (xs ++ ys) ≡ writes block xs ++ writes block ys
+writes_append block [] ys = refl
+writes_append block (x ∷ xs) ys = rw (writes_append block xs ys, append_assoc)
+
+reads_append : (block xs ys : List ℕ) → reads block (xs ++ ys) ≡ reads block xs ++ reads block ys
+reads_append block [] ys = refl
+reads_append block (x ∷ xs) ys = rw (reads_append block xs ys, append_assoc)
+
+pub writes_next : (block : List ℕ) (n : ℕ) → writes block (rising (n + 1)) ≡ writes block (rising n) ++ writes block (n ∷ [])
+writes_next block n = rw add-one (writes_append block (rising n) (n ∷ []))
+
+pub reads_next : (block : List ℕ) (n : ℕ) → reads block (rising (n + 1)) ≡ reads block (rising n) ++ reads block (n ∷ [])
+reads_next block n = rw add-one (reads_append block (rising n) (n ∷ []))
+
+module _ (f : List ℕ → List Operation) (joins : (xs ys : List ℕ) → f (xs ++ ys) ≡ f xs ++ f ys) where
+  within : (n m : ℕ) → n < m → length (f (rising n)) + length (f (n ∷ [])) ≤ length (f (rising m))
+  within n m h =
+      le_ind (λ (k : ℕ). length (f (rising n)) + length (f (n ∷ [])) ≤ length (f (rising k)))
+      (rw (joins, length-append) (le_refl _))
+      (λ k (l : suc n ≤ k) e. rw (joins, length-append) (omega arith))
+      m h
+
+pub writes_fit : (block : List ℕ) (n : ℕ) → n < 6 → length (writes block (rising n)) + length (writes block (n ∷ [])) ≤ length (writes block (rising 6))
+writes_fit block n h = within (writes block) (writes_append block) n 6 h
+
+pub reads_fit : (block : List ℕ) (n : ℕ) → n < 8 → length (reads block (rising n)) + length (reads block (n ∷ [])) ≤ length (reads block (rising 8))
+reads_fit block n h = within (reads block) (reads_append block) n 8 h
