@@ -3,8 +3,7 @@ use Rattle.std.specs.Prelude.{ℕ, ◌+◌, ◌*◌, cond, List}
 use Rattle.rules.specs.Held.{page_bytes}
 use Rattle.rules.specs.Step.{done}
 use Rattle.settings.specs.declared.Settings.{Settings}
-use Rattle.settings.specs.declared.Reading.{Reading}
-use Rattle.settings.specs.Store.{record_length, Written, written_in}
+use Rattle.settings.specs.Store.{Reading, record_length, Written, written_in}
 use Rattle.mend.specs.Mend.{Left, mends}
 
 -- of a read: the number that it returns, and settings for C, the fourteen bytes and the page size as a number

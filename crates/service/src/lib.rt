@@ -1,20 +1,24 @@
 // The tools for field service, for C on the service laptop: thin exported calls on lent bytes. host/service.h is what a caller reads.
 #![tactic(auto)]
 
-ghost use Rattle.std.specs.Prelude.{◌≡◌};
+ghost use Rattle.std.specs.Prelude.{◌≡◌, ◌+◌, ◌*◌, ◌<◌};
 ghost use Rattle.rules.specs.Held.{page_of};
+ghost use Rattle.rules.specs.Numbered.{answer_of, count_of};
 ghost use Rattle.settings.specs.Store.{settings_from, read_by, newest};
 ghost use Rattle.service.specs.Calls.{readout, showing, result as laying, lays, mending, mends_for};
 
-use rules::{PageSize, answers};
+use rules::PageSize;
+use rules::refusals::Refusal;
 use settings::{RECORD, Settings};
 
-fn settings_of(bytes: &[u8; 14], page: u32) -> Settings
-    ensures { result ≡ settings_from bytes.now (page_of page) }
+// In one number, for C: the answer, and above it how many bytes were written or changes listed.
+fn returned(done: Result<usize, Refusal>) -> u32
+    requires { count_of done < 65536 }
+    ensures { result ≡ answer_of done + 256 * count_of done }
 {
-    Settings {
-        bytes: *bytes,
-        page: PageSize::of(page),
+    match done {
+        Ok(count) => 256 * count as u32,
+        Err(refusal) => u8::from(refusal).into(),
     }
 }
 
@@ -22,32 +26,31 @@ fn settings_of(bytes: &[u8; 14], page: u32) -> Settings
 pub extern "C" fn service_read(store: &[u8], bytes: &mut [u8; 14], page: &mut u32) -> u8
     ensures { readout result bytes.new page.new ≡ showing (read_by newest store.now) bytes.old page.old }
 {
-    let reading = settings::read(store);
-    if reading.answer == answers::DONE {
-        let settings = reading.settings;
-        let found = settings.bytes;
-        *bytes = found;
-        let size = settings.page;
-        *page = size.bytes() as u32;
+    match settings::read(store) {
+        Ok(settings) => {
+            bytes.copy_from_slice(&settings.bytes);
+            *page = u16::from(settings.page).into();
+            0
+        }
+        Err(refusal) => u8::from(refusal),
     }
-    reading.answer
 }
 
 #[unsafe(no_mangle)]
 pub extern "C" fn service_write(bytes: &[u8; 14], page: u32, room: &mut [u8]) -> u32
     ensures { laying result room.new ≡ lays (settings_from bytes.now (page_of page)) room.old }
 {
-    let answer = settings::write(settings_of(bytes, page), room);
-    if answer != answers::DONE {
-        return answer as u32;
-    }
-    256 * RECORD as u32
+    let settings = Settings {
+        bytes: *bytes,
+        page: PageSize::from(page),
+    };
+    returned(settings::write(settings, room).map(|_| RECORD))
 }
 
 #[unsafe(no_mangle)]
+#[tactic(auto, using(mend::proofs::Listed::thirteen_at_most))]
 pub extern "C" fn service_mend(image: &mut [u8], list: &mut [u32]) -> u32
     ensures { mending result image.new list.new ≡ mends_for image.old list.old }
 {
-    let mended = mend::mend(image, list);
-    mended.answer as u32 + 256 * mended.changes as u32
+    returned(mend::mend(image, list))
 }
