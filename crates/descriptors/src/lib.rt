@@ -20,19 +20,19 @@ pub struct Part {
 // Descriptor types (USB 2.0, table 9-5).
 #[derive(Clone, Copy)]
 enum Kind {
-    Device = 1,
-    Configuration = 2,
-    String = 3,
-    Qualifier = 6,
+    Device,
+    Configuration,
+    String,
+    Qualifier,
 }
 
 impl Kind {
     // Of strings any index is answered, of the other types 0 alone.
     #[tactic(auto, unfolding(rules::specs::Descriptors::answered))]
-    fn asked(kind: u8, index: u8) -> Result<Kind, Refusal>
-        ensures { MatchResult result (λ k. (kind_number k ≡ kind) × (answered kind index ≡ true)) (λ e. (e ≡ Refusal.NoDescriptor) × (answered kind index ≡ false)) }
+    fn asked(number: u8, index: u8) -> Result<Kind, Refusal>
+        ensures { MatchResult result (λ k. (kind_number k ≡ number) × (answered number index ≡ true)) (λ e. (e ≡ Refusal.NoDescriptor) × (answered number index ≡ false)) }
     {
-        match (kind, index) {
+        match (number, index) {
             (1, 0) => Ok(Kind::Device),
             (2, 0) => Ok(Kind::Configuration),
             (3, _) => Ok(Kind::String),
@@ -86,8 +86,8 @@ pub fn look(
 ) -> Result<Part, Refusal>
     ensures { numbered result ≡ looked bus_powered first memory.now value }
 {
-    let [kind, index] = value.to_be_bytes();
-    let kind = Kind::asked(kind, index)?;
+    let [number, index] = value.to_be_bytes();
+    let kind = Kind::asked(number, index)?;
     let start = kind.place(index, bus_powered, first);
     let at = u16::from(start) as usize;
     let head = kind.head();
@@ -95,7 +95,7 @@ pub fn look(
         return Err(Refusal::PastMemory);
     }
     let length = kind.length_at(memory, at);
-    if memory[at + 1] != kind as u8 || (length as usize) < head {
+    if memory[at + 1] != number || (length as usize) < head {
         return Err(Refusal::NoDescriptor);
     }
     if memory.len() < at + length as usize {
