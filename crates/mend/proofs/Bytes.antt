@@ -3,14 +3,15 @@ use Prim.Native.Nat.{ℕ, zero, suc, ◌+◌, ◌-◌, ◌<◌, ◌≤◌}
 use mathlib.Core.Path.{◌≡◌, refl, sym, ap, subst, ◌∙◌}
 use mathlib.Core.Logic.{◌⊎◌, inl, inr}
 use mathlib.Core.Bool.{Bool, true, false, cond, not, ◌&&◌, ◌||◌, false≢true, and-eq-true_iff, or-true}
-use mathlib.Core.List.{List, [], ◌∷◌, ◌++◌}
+use mathlib.Core.List.{List, [], ◌∷◌, ◌++◌, append_assoc}
 use native.Mathlib.Nat.{add-zero, zero-add, suc-add, add-suc}
 use native.Mathlib.Omega.{arith}
-use native.Mathlib.Numerals.{add-one}
-use lib.ListN.{length, set, take, drop, take-append-drop, length-drop, get_or-append, get_or-eq_default}
-use lib.Seq.{ext_get_or, length-take-le, get_or-take, get_or-drop, drop_at, paste, paste-suc, length-paste}
+use lib.ListN.{length, set, take, drop, length-take, take-append-drop, length-drop, get_or-eq_default}
+use lib.Seq.{ext_get_or, get_or-drop}
 use lib.Dec.{eqb, leb, ltb}
 use borrow.Author.Tests.{eqb-true, eqb-false, eq-eqb, ne_eqb, leb-false, le-leb, lt-leb, ltb-true, ltb-false}
+use Rattle.std.proofs.lemmas.Grind.{elements}
+use Rattle.std.proofs.lemmas.List.{take_more, drop_more, set_at}
 use Rattle.rules.specs.Words.{byte}
 use Rattle.mend.specs.Mended.{Among}
 use Rattle.mend.specs.Mend.{Fixed, fixed_bytes, set_by, each_byte, fixed, second_of, lost, judged_by, mended}
@@ -229,35 +230,24 @@ mended_beyond image =
 
 -- mended from the front, so many bytes
 abbrev pub half : List ℕ → ℕ → List ℕ
-half image n = paste image 0 (mended image) n
+half image n = take n (mended image) ++ drop n image
 
 module _ (image : List ℕ) (n : ℕ) (h : n ≤ length image) where
   pub half_length : length (half image n) ≡ length image
-  half_length = length-paste image 0 (mended image) n (omega arith) (omega (arith, mended-length image))
-
-  front_length : length (take n (mended image)) ≡ n
-  front_length = length-take-le n (mended image) (omega (arith, mended-length image))
+  half_length = let same = mended-length image in grind (arith, elements)
 
   -- the rest is as it was
   pub half_ahead : (k : ℕ) → n ≤ k → byte k (half image n) ≡ byte k image
-  half_ahead k g =
-      let there : n + (k - n) ≡ k = omega arith in
-      ap (λ (j : ℕ). byte j (half image n)) (sym there)
-      ∙ sym (get_or-drop n (half image n) (k - n) 0)
-      ∙ ap (byte (k - n)) (drop_at (take n (mended image)) (drop (0 + n) image) n front_length ∙ ap (λ (j : ℕ). drop j image) (zero-add n))
-      ∙ get_or-drop n image (k - n) 0
-      ∙ ap (λ (j : ℕ). byte j image) there
+  half_ahead k g = let same = mended-length image in grind (arith, elements)
 
   half_done : (k : ℕ) → k < n → byte k (half image n) ≡ byte k (mended image)
-  half_done k g =
-      get_or-append (take n (mended image)) (drop (0 + n) image) 0 k (omega (arith, front_length)) ∙ get_or-take n (mended image) k 0 g
+  half_done k g = let same = mended-length image in grind (arith, elements)
 
   -- one byte more
   pub half-set : n < length image → set (half image n) n (byte n (mended image)) ≡ half image (n + 1)
   half-set g =
-      ap (λ (k : ℕ). set (half image n) k (byte n (mended image))) (sym (zero-add n))
-      ∙ paste-suc image 0 (mended image) n 0 (omega arith) (omega (arith, mended-length image))
-      ∙ ap (half image) (sym (add-one n))
+      rw (drop_more image n 0 g, take_more (mended image) n 0 (omega (arith, mended-length image)), append_assoc)
+      (set_at (take n (mended image)) (byte n image) (drop (n + 1) image) (byte n (mended image)) n (omega (arith, length-take n (mended image), mended-length image)))
 
   -- it is mended to the same
   pub half_still : mended (half image n) ≡ mended image
