@@ -57,21 +57,25 @@ impl TryFrom<u16> for Kind {
 
 // The last byte of a paged record: the page size divided by 32.
 #[derive(Clone, Copy)]
-struct PageByte(u8);
+struct PageByte {
+    value: u8,
+}
 
 impl From<PageByte> for PageSize {
     fn from(last: PageByte) -> PageSize
-        ensures { result ≡ page_of (32 * last.0) }
+        ensures { result ≡ page_of (32 * last.value) }
     {
-        PageSize::from(32 * u32::from(last.0))
+        PageSize::from(32 * u32::from(last.value))
     }
 }
 
 impl From<PageSize> for PageByte {
     fn from(page: PageSize) -> PageByte
-        ensures { result.0 ≡ page_bytes page / 32 }
+        ensures { result.value ≡ page_bytes page / 32 }
     {
-        PageByte((u16::from(page) / 32) as u8)
+        PageByte {
+            value: (u16::from(page) / 32) as u8,
+        }
     }
 }
 
@@ -82,16 +86,23 @@ fn settings_in(kind: Kind, payload: &[u8]) -> Result<Settings, Refusal>
     let (&bytes, behind) = payload.split_first_chunk().ok_or(Refusal::PayloadLength)?;
     let page = match (kind, behind) {
         (Kind::Plain, []) => PageSize::Of256,
-        (Kind::Paged, &[last]) => PageSize::from(PageByte(last)),
+        (Kind::Paged, &[value]) => PageSize::from(PageByte { value }),
         _ => return Err(Refusal::PayloadLength),
     };
     Ok(Settings { bytes, page })
 }
 
-// The settings of the record at the front of a store, and what stands behind it: checks 20, 21 and 22.
+// A record that is read: its settings, and what stands behind it.
+#[derive(Clone, Copy)]
+struct Record<'a> {
+    settings: Settings,
+    behind: &'a [u8],
+}
+
+// The record at the front of a store: checks 20, 21 and 22.
 #[tactic(auto, unfolding(crate::specs::Store::record_read))]
-fn read_record(store: &[u8]) -> Result<(Settings, &[u8]), Refusal>
-    ensures { MatchResult result (λ r. (reading (Ok r.0) ≡ record_read newest store.now) × (r.1.now ≡ drop (4 + length_of store.now) store.now)) (λ refusal. reading (Err refusal) ≡ record_read newest store.now) }
+fn read_record<'a>(store: &'a [u8]) -> Result<Record<'a>, Refusal>
+    ensures { MatchResult result (λ r. (reading (Ok r.settings) ≡ record_read newest store.now) × (r.behind.now ≡ drop (4 + length_of store.now) store.now)) (λ refusal. reading (Err refusal) ≡ record_read newest store.now) }
 {
     let &[l0, l1, k0, k1, ref rest @ ..] = store else {
         return Err(Refusal::CutRecord);
@@ -102,7 +113,8 @@ fn read_record(store: &[u8]) -> Result<(Settings, &[u8]), Refusal>
     }
     let (payload, behind) = rest.split_at(length);
     let kind = Kind::try_from(u16::from_le_bytes([k0, k1]))?;
-    Ok((settings_in(kind, payload)?, behind))
+    let settings = settings_in(kind, payload)?;
+    Ok(Record { settings, behind })
 }
 
 // Record by record from the front; the last one is the settings.
@@ -113,7 +125,7 @@ pub fn read(store: &[u8]) -> Result<Settings, Refusal>
     let mut last = Err(Refusal::NoRecord);
     let mut rest = store;
     while !rest.is_empty() {
-        let (settings, behind) = read_record(rest)?;
+        let Record { settings, behind } = read_record(rest)?;
         last = Ok(settings);
         rest = behind;
     }
@@ -131,7 +143,7 @@ fn record_of(settings: Settings) -> [u8; RECORD]
     record[..2].copy_from_slice(&15u16.to_le_bytes());
     record[2..4].copy_from_slice(&(Kind::Paged as u16).to_le_bytes());
     record[4..18].copy_from_slice(&settings.bytes);
-    record[18] = PageByte::from(settings.page).0;
+    record[18] = PageByte::from(settings.page).value;
     record
 }
 
