@@ -2,25 +2,21 @@
 #![tactic(auto)]
 
 ghost use Rattle.std.specs.Prelude.{◌≡◌, false, ltb, length};
-ghost use Rattle.packets.specs.Awaited.{Awaits, meaning_of, taken_as};
-ghost use Rattle.outcomes.specs.Outcomes.{outcome, AnswersOf};
+ghost use Rattle.packets.specs.Awaited.{Awaits, damage_checks, meaning_of, taken_as};
+ghost use Rattle.outcomes.specs.Outcomes.{AnswersOf};
+ghost use Rattle.rules.specs.Numbered.{numbered, told};
 ghost use Rattle.rules.specs.Words.{first};
 ghost use Rattle.rules.specs.Held.{drive_count};
 ghost use Rattle.rules.specs.Answers.{unawaited_checks};
 ghost use Rattle.rules.specs.Step.{Packet};
-ghost use Rattle.rules.specs.Packets.{command_layout, command_of, valid, sensible, meaningful, direction_of, begins, command_taken};
+ghost use Rattle.rules.specs.Packets.{command_layout, command_of, valid, sensible, meaningful, direction_of, lun_of, begins, command_taken};
 
 use outcomes::{Outcome, done, refused};
-use passthrough::Judgement;
-use rules::{Bridge, Change, CommandPacket, Direction, Drives, Lun, Phase, StatusPacket, answers};
+use passthrough::Unmade;
+use rules::refusals::Refusal;
+use rules::{Bridge, Change, CommandPacket, Direction, Drives, Lun, Phase, StatusPacket};
 
-// What a packet means: nothing, or a command for a drive.
-#[derive(Clone, Copy)]
-enum Meaning {
-    None,
-    For(Lun),
-}
-
+#[tactic(auto, unfolding(rules::specs::Packets::valid))]
 fn is_valid(packet: &[u8]) -> bool
     ensures { result ≡ valid packet.now }
 {
@@ -44,34 +40,46 @@ fn command_of(packet: &[u8]) -> CommandPacket
 }
 
 // What a packet says beside its LUN is meaningful.
+#[tactic(auto, unfolding(rules::specs::Packets::sensible))]
 fn is_sensible(c: CommandPacket) -> bool
     ensures { result ≡ sensible c }
 {
-    ((c.flags == 0x00) | (c.flags == 0x80)) && (1 <= c.block_length) && (c.block_length <= 16)
+    matches!(c.flags, 0x00 | 0x80) && matches!(c.block_length, 1..=16)
 }
 
 // The drive of a LUN byte, all of which counts: 0x10 is not 0, and 0x11 is not 1.
-fn drive_of(drives: Drives, lun: u8) -> Meaning
+fn drive_of(drives: Drives, lun: u8) -> Option<Lun>
     ensures { result ≡ meaning_of (ltb lun (drive_count drives)) lun }
 {
-    match lun {
-        0 => Meaning::For(Lun::Lun0),
-        1 => match drives {
-            Drives::One => Meaning::None,
-            Drives::Two => Meaning::For(Lun::Lun1),
-        },
-        _ => Meaning::None,
+    match (lun, drives) {
+        (0, _) => Some(Lun::Lun0),
+        (1, Drives::Two) => Some(Lun::Lun1),
+        _ => None,
     }
 }
 
-// Whether a packet is meaningful, and for which drive.
-fn meaning_of(drives: Drives, c: CommandPacket) -> Meaning
+// The drive that a packet is for, if it is meaningful.
+#[tactic(auto, unfolding(rules::specs::Packets::meaningful))]
+fn meaning_of(drives: Drives, c: CommandPacket) -> Option<Lun>
     ensures { result ≡ meaning_of (meaningful drives c) c.lun }
 {
     if is_sensible(c) {
         return drive_of(drives, c.lun);
     }
-    Meaning::None
+    None
+}
+
+// The command of a packet that is not damaged, and its drive.
+#[tactic(auto, using(crate::proofs::Commands::thirty_one))]
+fn undamaged(drives: Drives, packet: &[u8]) -> Result<(CommandPacket, Lun), Refusal>
+    ensures { numbered result ≡ told (command_of packet.now, lun_of (command_of packet.now)) (first (damage_checks drives packet.now)) }
+{
+    if !is_valid(packet) {
+        return Err(Refusal::NotValid);
+    }
+    let c = command_of(packet);
+    let lun = meaning_of(drives, c).ok_or(Refusal::NotMeaningful)?;
+    Ok((c, lun))
 }
 
 fn direction_of(c: CommandPacket) -> Direction
@@ -89,7 +97,7 @@ fn begun(lun: Lun, c: CommandPacket) -> Change
 {
     Change::Begins {
         direction: direction_of(c),
-        lun: lun,
+        lun,
         tag: c.tag,
         length: c.length,
     }
@@ -109,23 +117,13 @@ fn failed(c: CommandPacket) -> Change
 }
 
 // What the judgement of its block makes of a meaningful packet.
-fn taken(judgement: Judgement, lun: Lun, c: CommandPacket) -> Outcome
+fn taken(judgement: Result<u16, Unmade>, lun: Lun, c: CommandPacket) -> Outcome
     ensures { result ≡ taken_as judgement lun c }
 {
     match judgement {
-        Judgement::Unrecognised => done(0, failed(c)),
-        Judgement::NoRoom => refused(answers::OPERATION_ROOM),
-        Judgement::Made(count) => done(count, begun(lun, c)),
-    }
-}
-
-fn stopped(answer: u8) -> Outcome
-    ensures { result ≡ outcome answer 0 Change.Stops }
-{
-    Outcome {
-        answer: answer,
-        count: 0,
-        change: Change::Stops,
+        Ok(count) => done(count, begun(lun, c)),
+        Err(Unmade::Unrecognised) => done(0, failed(c)),
+        Err(Unmade::NoRoom) => refused(Refusal::OperationRoom),
     }
 }
 
@@ -134,14 +132,8 @@ fn stopped(answer: u8) -> Outcome
 pub fn awaited(drives: Drives, signature: u8, packet: &[u8], operations: &mut [u16]) -> Outcome
     ensures { (b : Bridge) → Awaits drives b → AnswersOf b signature (Packet packet.now) operations.old result operations.new }
 {
-    if !is_valid(packet) {
-        return stopped(answers::NOT_VALID);
-    }
-    let c = command_of(packet);
-    let meaning = meaning_of(drives, c);
-    match meaning {
-        Meaning::None => stopped(answers::NOT_MEANINGFUL),
-        Meaning::For(lun) => {
+    match undamaged(drives, packet) {
+        Ok((c, lun)) => {
             let judgement = passthrough::judge(
                 &packet[15..CommandPacket::LENGTH],
                 c.block_length,
@@ -153,45 +145,34 @@ pub fn awaited(drives: Drives, signature: u8, packet: &[u8], operations: &mut [u
             );
             taken(judgement, lun, c)
         }
+        Err(refusal) => Outcome {
+            answer: Err(refusal),
+            change: Change::Stops,
+        },
     }
 }
 
-// The answer to a packet that is not awaited, whatever it is; else 0.
-pub fn unawaited(b: Bridge) -> u8
-    ensures { result ≡ first (unawaited_checks b) }
+// A packet that is not awaited is refused, whatever it is.
+pub fn unawaited(b: Bridge) -> Result<(), Refusal>
+    ensures { numbered result ≡ told tt (first (unawaited_checks b)) }
 {
     if !b.configured {
-        return answers::UNCONFIGURED;
+        return Err(Refusal::Unconfigured);
     }
-    let phase = b.phase;
-    if outcomes::is_stopped(phase) | b.halts.outward {
-        return answers::HALTED;
+    if outcomes::is_stopped(b.phase) | b.halts.outward {
+        return Err(Refusal::Halted);
     }
-    match phase {
-        Phase::Awaiting => answers::DONE,
-        Phase::Busy {
-            direction: _,
-            lun: _,
-            tag: _,
-            length: _,
-        }
-        | Phase::StatusWaiting {
-            tag: _,
-            residue: _,
-            status: _,
-        }
-        | Phase::Stopped { reset: _ } => answers::WRONG_PHASE,
+    match b.phase {
+        Phase::Awaiting => Ok(()),
+        _ => Err(Refusal::WrongPhase),
     }
 }
 
 pub fn packet(b: Bridge, signature: u8, packet: &[u8], operations: &mut [u16]) -> Outcome
     ensures { AnswersOf b signature (Packet packet.now) operations.old result operations.new }
 {
-    let answer = unawaited(b);
-    if answer != answers::DONE {
-        return refused(answer);
+    match unawaited(b) {
+        Ok(()) => awaited(b.dock.drives, signature, packet, operations),
+        Err(refusal) => refused(refusal),
     }
-    let dock = b.dock;
-    let drives = dock.drives;
-    awaited(drives, signature, packet, operations)
 }
