@@ -14,7 +14,7 @@ const SELECTION: usize = 3;
 
 const CONTENTS: usize = 5;
 
-// The bits of the action, by their names in source 001.
+// The bits of the action, by their names in source 001. Numbers and no enum, which would be cast to its place at every use.
 const TASK_FILE_READ: u8 = 0;
 
 const DEVICE_SELECTION_OVERRIDE: u8 = 1;
@@ -219,7 +219,7 @@ impl<'a> Block<'a> {
         }
     }
 
-    // Reads of selected 0 to 7.
+    // Reads of selected 0 to 7. A loop of its own: one for both would take a closure, and clauses for what that makes of each register.
     #[tactic(auto, using(crate::proofs::Growing::rows, crate::proofs::Growing::reads_next, crate::proofs::Growing::reads_fit))]
     fn put_reads(&self, row: &mut Row)
         requires { Fits (reads self.now.bytes.now (rising 8)) row.old }
