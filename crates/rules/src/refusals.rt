@@ -1,6 +1,6 @@
 // The refusals of the paper, each with its answer number. What is done answers 0.
-ghost use Rattle.std.specs.Prelude.{◌≡◌};
-ghost use Rattle.rules.specs.Numbered.{refusal_number};
+ghost use Rattle.std.specs.Prelude.{◌≡◌, ◌+◌, ◌*◌};
+ghost use Rattle.rules.specs.Numbered.{refusal_number, answer_of, count_of};
 
 #[derive(Clone, Copy)]
 pub enum Refusal {
@@ -36,5 +36,15 @@ impl From<Refusal> for u8 {
         ensures { result ≡ refusal_number refusal }
     {
         refusal as u8
+    }
+}
+
+// In one number, for C: the answer, and above it how much was handed out.
+pub fn returned(answer: Result<u16, Refusal>) -> u32
+    ensures { result ≡ answer_of answer + 256 * count_of answer }
+{
+    match answer {
+        Ok(count) => 256 * count as u32,
+        Err(refusal) => u8::from(refusal) as u32,
     }
 }

@@ -8,19 +8,8 @@ ghost use Rattle.settings.specs.Store.{settings_from, read_by, newest};
 ghost use Rattle.service.specs.Calls.{readout, showing, result as laying, lays, mending, mends_for};
 
 use rules::PageSize;
-use rules::refusals::Refusal;
+use rules::refusals::returned;
 use settings::{RECORD, Settings};
-
-// In one number, for C: the answer, and above it how many bytes were written or changes listed.
-fn returned(done: Result<usize, Refusal>) -> u32
-    requires { count_of done < 65536 }
-    ensures { result ≡ answer_of done + 256 * count_of done }
-{
-    match done {
-        Ok(count) => 256 * count as u32,
-        Err(refusal) => u8::from(refusal).into(),
-    }
-}
 
 #[unsafe(no_mangle)]
 pub extern "C" fn service_read(store: &[u8], bytes: &mut [u8; 14], page: &mut u32) -> u8
@@ -44,7 +33,7 @@ pub extern "C" fn service_write(bytes: &[u8; 14], page: u32, room: &mut [u8]) ->
         bytes: *bytes,
         page: PageSize::from(page),
     };
-    returned(settings::write(settings, room).map(|_| RECORD))
+    returned(settings::write(settings, room).map(|_| RECORD as u16))
 }
 
 #[unsafe(no_mangle)]
@@ -52,5 +41,5 @@ pub extern "C" fn service_write(bytes: &[u8; 14], page: u32, room: &mut [u8]) ->
 pub extern "C" fn service_mend(image: &mut [u8], list: &mut [u32]) -> u32
     ensures { mending result image.new list.new ≡ mends_for image.old list.old }
 {
-    returned(mend::mend(image, list))
+    returned(mend::mend(image, list).map(|changes| changes as u16))
 }
