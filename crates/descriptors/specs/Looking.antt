@@ -2,7 +2,7 @@
 use Rattle.std.specs.Prelude.{ℕ, Bool, true, List, Result}
 use Rattle.rules.specs.declared.addresses.StringIndex.{StringIndex}
 use Rattle.rules.specs.Words.{first}
-use Rattle.rules.specs.Numbered.{told}
+use Rattle.rules.specs.Numbered.{checked}
 use Rattle.rules.specs.Descriptors.{place_in, length_in, descriptor_checks}
 use Rattle.descriptors.specs.declared.Kind.{Kind}
 use Rattle.descriptors.specs.declared.Kind.TheVariants.{Device, Configuration, String, Qualifier}
@@ -17,5 +17,5 @@ kind_number Qualifier = 6
 
 abbrev pub looked : Bool → StringIndex → List ℕ → ℕ → Result Part ℕ
 looked powered named memory value =
-    told (record { start = place_in powered named value; length = length_in powered named memory value })
+    checked (record { start = place_in powered named value; length = length_in powered named memory value })
     (first (descriptor_checks true powered named memory value))

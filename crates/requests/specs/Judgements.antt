@@ -5,9 +5,9 @@ use Rattle.rules.specs.declared.Seen.{Seen}
 use Rattle.rules.specs.declared.Setup.{Setup}
 use Rattle.rules.specs.Words.{Check, ◌if◌}
 use Rattle.rules.specs.Held.{size_of, fitted}
-use Rattle.rules.specs.Numbered.{told}
+use Rattle.rules.specs.Numbered.{checked}
 use Rattle.rules.specs.Descriptors.{place_in, descriptor_checks}
-use Rattle.rules.specs.Descriptors.{told as told_of}
+use Rattle.rules.specs.Descriptors.{told}
 use Rattle.rules.specs.Requests.{Named, Unknown, Known, Describes, request_of}
 use Rattle.requests.specs.declared.Place.{Place}
 use Rattle.requests.specs.declared.Place.TheVariants.{ConfigurationBytes, Memory}
@@ -26,7 +26,7 @@ row_names (Requests r) = Known r
 row_names Descriptor = Describes
 
 abbrev pub judged_by : Request → Setup → ℕ → Result Granted ℕ
-judged_by r s answer = told (Does r s) answer
+judged_by r s answer = checked (Does r s) answer
 
 -- the checks of a request for a descriptor: 7, those of the descriptor, and 2
 abbrev pub described_checks : Seen → List ℕ → Setup → ℕ → List Check
@@ -37,10 +37,10 @@ described_checks seen memory s host =
 
 abbrev pub found_by : Seen → List ℕ → Setup → ℕ → Result Granted ℕ
 found_by seen memory s answer =
-    told (Tells
+    checked (Tells
     (record {
       start = place_in seen.bus_powered seen.first_string s.value;
-      length = length (told_of seen.bus_powered seen.first_string (fitted memory) s.value s.length);
+      length = length (told seen.bus_powered seen.first_string (fitted memory) s.value s.length);
     }))
     answer
 

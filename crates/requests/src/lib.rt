@@ -3,7 +3,7 @@
 
 ghost use Rattle.std.specs.Prelude.{◌≡◌, true, false, cond, not, ◌&&◌, ◌||◌, ◌∷◌, ◌++◌, ◌+◌, MatchResult, eqb, leb, ltb, length};
 ghost use Rattle.requests.specs.Judgements.{place_number, row_names, judged, judged_by, found_by, described_checks};
-ghost use Rattle.rules.specs.Numbered.{numbered, told};
+ghost use Rattle.rules.specs.Numbered.{numbered, checked};
 ghost use Rattle.rules.specs.Words.{first};
 ghost use Rattle.rules.specs.Requests.{Unknown, Known, is_a, setup_of, request_of, needs_configuration, in_bytes, in_memory, one_page};
 ghost use Rattle.rules.specs.Held.{size_of, fitted, page_bytes, bulk_out, bulk_in};
@@ -139,7 +139,7 @@ impl<'a> Asked<'a> {
     // Checks 2 and 3: the host sends wLength bytes where the type is below 0x80, else it is sent them. Each way has its own test for 2: with one for both
     // the compiler joins the rows of the table before 3, and each request took five instructions more.
     fn check_data(&self) -> Result<(), Refusal>
-        ensures { let a = self.now in numbered result ≡ told tt (first (data_checks false a.setup a.host a.room)) }
+        ensures { let a = self.now in numbered result ≡ checked tt (first (data_checks false a.setup a.host a.room)) }
     {
         let n = self.setup.length as usize;
         if self.setup.kind < 0x80 {

@@ -37,8 +37,8 @@ numbered (Ok x) = Ok x
 numbered (Err refusal) = Err (refusal_number refusal)
 
 -- what checks come to whose first number is n: a value where it is 0, and else a refusal
-abbrev pub told : {A : Type 0} → A → ℕ → Result A ℕ
-told x n = cond (done n) (Ok x) (Err n)
+abbrev pub checked : {A : Type 0} → A → ℕ → Result A ℕ
+checked x n = cond (done n) (Ok x) (Err n)
 
 -- the answer of a result, and the count of one that has it for its value
 abbrev pub answer_of : {A : Type 0} → Result A Refusal → ℕ
