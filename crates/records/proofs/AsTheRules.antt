@@ -10,9 +10,7 @@ use lib.Seq.{drop-drop}
 use borrow.Author.Tests.{ltb-true}
 use Rattle.rules.specs.Held.{World}
 use Rattle.rules.specs.Step.{step, rules, after}
-use Rattle.records.specs.declared.Head.{Head}
-use Rattle.records.specs.declared.Head.TheVariants.{Whole, Torn, Part}
-use Rattle.records.specs.Records.{length_of, head_of}
+use Rattle.records.specs.Records.{Head, Whole, Torn, Part, length_of, head_of}
 use Rattle.records.specs.Lines.{line, torn_line, line_most}
 use Rattle.records.specs.Runs.{Run, event_in, rests, turn, run, printed, RunsAreTheRules, NothingIsLeft}
 use Rattle.records.proofs.Heads.{empty_part}

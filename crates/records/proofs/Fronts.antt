@@ -10,36 +10,13 @@ use lib.Seq.{drop-append-le, drop-drop}
 use borrow.Author.Tests.{le-ltb}
 use Rattle.rules.specs.Held.{World}
 use Rattle.rules.specs.Step.{Event}
-use Rattle.records.specs.declared.Head.{Head}
-use Rattle.records.specs.declared.Head.TheVariants.{Whole, Torn, Part}
-use Rattle.records.specs.Records.{length_of, head_of}
+use Rattle.records.specs.Records.{Head, Whole, Torn, Part, length_of, head_of}
 use Rattle.records.specs.Lines.{line_most}
-use Rattle.records.specs.Runs.{Run, before, event_in, rests, turn, turn_in, run}
+use Rattle.records.specs.Runs.{Run, before, event_in, rests, turn, run}
 use Rattle.records.specs.Streams.{onward, whole}
-use Rattle.records.proofs.Heads.{whole_facts, empty_part, length_stays, event_stays, Stays, head_stays}
-use Rattle.records.proofs.Running.{before-before, before_none}
-use Rattle.records.proofs.AsTheRules.{behind, behind_shorter, first, next, rest}
-
--- ---- as many records as a stream has bytes are enough
-
-none_enough : (last : Bool) (room : ℕ) (w : World) (s : List ℕ) (r : Run) → length s ≤ 0 → rests w ≡ turn_in room last w s r
-none_enough last room w s r h = rw (empty_part last s h) (go (ltb room line_most))
-  where
-    go : (full : Bool) → rests w ≡ cond full (rests w) (rests w)
-    go true = refl
-    go false = refl
-
-enough : (n m : ℕ) (last : Bool) (room : ℕ) (w : World) (s : List ℕ) → length s ≤ n → length s ≤ m → run n last room w s ≡ run m last room w s
-enough zero zero last room w s h k = refl
-enough zero (suc m) last room w s h k = none_enough last room w s _ h
-enough (suc n) zero last room w s h k = sym (none_enough last room w s _ k)
-enough (suc n) (suc m) last room w s h k =
-    ap (turn_in room last w s) (enough n m last (room - length (first w s)) (next w s) (behind s) (behind_shorter s h) (behind_shorter s k))
-
-pub whole_turns : (room : ℕ) (w : World) (s : List ℕ) → whole room w s ≡ turn_in room true w s (whole (room - length (first w s)) (next w s) (behind s))
-whole_turns room w s =
-    enough (length s) (suc (length s)) true room w s (omega arith) (omega arith)
-    ∙ ap (turn_in room true w s) (enough (length s) (length (behind s)) true _ _ (behind s) (behind_shorter s (omega arith)) (omega arith))
+use Rattle.records.proofs.Heads.{whole_facts, length_stays, event_stays, Stays, head_stays}
+use Rattle.records.proofs.Running.{whole_turns, before-before, before_none}
+use Rattle.records.proofs.AsTheRules.{behind, first, next, rest}
 
 -- ---- fronts
 
@@ -114,7 +91,7 @@ run_front (suc n) last few room w s later none =
         → Front room w s later (cond full (rests w) (turn h w s (rest w s n last few)))
     go true h e k onto = rests_front room w s later
     go false Whole e k onto =
-        front_onward room w s later (one w s) (rest w s n last few) (one_front room w s later (whole_facts last s refl e).0 k) onto
+        front_onward room w s later (one w s) (rest w s n last few) (one_front room w s later (whole_facts last s (sym e)).0 k) onto
     go false Torn e k onto = record {
       inside = omega arith;
       same = λ l. whole_turns room w (s ++ later) ∙ rw (le-ltb room line_most (omega (arith, l)), k);

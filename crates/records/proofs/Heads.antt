@@ -1,6 +1,6 @@
--- Laws of how a stream begins: by what the code reads of it, and where it goes on.
-use mathlib.Core.Path.{◌≡◌, refl, sym, ap, ◌∙◌}
-use mathlib.Core.Bool.{Bool, true, false, cond, not, ◌&&◌, true≢false}
+-- Laws of how a stream begins, and of how it does where more of it comes.
+use mathlib.Core.Path.{◌≡◌, refl}
+use mathlib.Core.Bool.{Bool, true, false, cond, not, ◌&&◌}
 use mathlib.Core.List.{List, [], ◌∷◌, ◌++◌, append-nil}
 use Prim.Native.Nat.compare
 use Prim.Native.Nat.{ℕ, ◌+◌, ◌≤◌, ◌<◌}
@@ -8,55 +8,31 @@ use native.Mathlib.Omega.{arith}
 use lib.Dec.{eqb, ltb}
 use lib.ListN.{length, drop, length-append, length-drop, get_or-append}
 use lib.Seq.{take-append-le, drop-append-le}
-use borrow.Author.Tests.{lt-ltb, le-ltb, ltb-false}
+use borrow.Author.Tests.{le-ltb, ltb-false}
 use Rattle.rules.specs.Words.{word}
-use Rattle.records.specs.declared.Head.{Head}
-use Rattle.records.specs.declared.Head.TheVariants.{Whole, Torn, Part}
-use Rattle.records.specs.Records.{length_of, kind_of, torn, unfinished, head_of}
+use Rattle.records.specs.Records.{Head, Whole, Torn, Part, length_of, kind_of, torn, unfinished, head_of}
 use Rattle.records.specs.Runs.{event_in}
-use Rattle.records.specs.Printed.{is_whole, is_torn}
 
 module _ (last : Bool) (s : List ℕ) where
-  pub too_short : {h : Head} → h ≡ unfinished last (length s) → length s < 4 → h ≡ head_of last s
-  unfolding head_of
-  too_short e l = rw (e, lt-ltb (length s) 4 l)
-
-  module _ (l : 4 ≤ length s) {n k : ℕ} {t : Bool} (hn : n ≡ word 0 s) (hk : k ≡ word 2 s) (ht : t ≡ torn k n) where
-    read : torn (kind_of s) (length_of s) ≡ t
-    read = sym (rw (hk, hn) at ht)
-
-    pub torn_head : t ≡ true → Torn ≡ head_of last s
-    unfolding head_of
-    torn_head p = rw (le-ltb (length s) 4 l, read ∙ p)
-
-    module _ (p : t ≡ false) where
-      pub cut_head : {h : Head} → h ≡ unfinished last (length s) → length s < 4 + n → h ≡ head_of last s
-      unfolding head_of
-      cut_head e q = rw (e, le-ltb (length s) 4 l, read ∙ p, lt-ltb (length s) (4 + length_of s) (rw hn at q))
-
-      pub whole_head : 4 + n ≤ length s → Whole ≡ head_of last s
-      unfolding head_of
-      whole_head q = rw (le-ltb (length s) 4 l, read ∙ p, le-ltb (length s) (4 + length_of s) (rw hn at q))
-
   -- a whole record is all there, and not torn
-  pub whole_facts : {h : Head} → h ≡ head_of last s → h ≡ Whole → (4 + length_of s ≤ length s) × (torn (kind_of s) (length_of s) ≡ false)
+  pub whole_facts : Whole ≡ head_of last s → (4 + length_of s ≤ length s) × (torn (kind_of s) (length_of s) ≡ false)
   unfolding head_of
-  whole_facts e h = go (ltb (length s) 4) (torn (kind_of s) (length_of s)) (ltb (length s) (4 + length_of s)) refl refl refl (ap is_whole (sym e ∙ h))
+  whole_facts e = go (ltb (length s) 4) (torn (kind_of s) (length_of s)) (ltb (length s) (4 + length_of s)) refl refl e
     where
       more : Head
       more = unfinished last (length s)
 
-      no : {A : Type 0} (t : Bool) → is_whole (cond t Torn Part) ≡ true → A
-      no true f = absurd (true≢false (sym f))
-      no false f = absurd (true≢false (sym f))
+      no : {A : Type 0} (t : Bool) → Whole ≡ cond t Torn Part → A
+      no true f = cc
+      no false f = cc
 
-      go : (a t b : Bool) → ltb (length s) 4 ≡ a → torn (kind_of s) (length_of s) ≡ t → ltb (length s) (4 + length_of s) ≡ b
-          → is_whole (cond a more (cond t Torn (cond b more Whole))) ≡ true
+      go : (a t b : Bool) → torn (kind_of s) (length_of s) ≡ t → ltb (length s) (4 + length_of s) ≡ b
+          → Whole ≡ cond a more (cond t Torn (cond b more Whole))
           → (4 + length_of s ≤ length s) × (torn (kind_of s) (length_of s) ≡ false)
-      go true t b p q r f = no (last && not (eqb (length s) 0)) f
-      go false true b p q r f = absurd (true≢false (sym f))
-      go false false true p q r f = no (last && not (eqb (length s) 0)) f
-      go false false false p q r f = (ltb-false (length s) (4 + length_of s) r, q)
+      go true t b q r f = no (last && not (eqb (length s) 0)) f
+      go false true b q r f = cc
+      go false false true q r f = no (last && not (eqb (length s) 0)) f
+      go false false false q r f = (ltb-false (length s) (4 + length_of s) r, q)
 
 -- ---- nothing is a part, and where the stream has ended no other is
 
@@ -76,10 +52,10 @@ part_empty (x ∷ s) e =
     absurd (go (ltb (length (x ∷ s)) 4) (torn (kind_of (x ∷ s)) n) (ltb (length (x ∷ s)) (4 + n)) (rw (compare.suc-zero (length s)) at e))
   where
     go : (a b c : Bool) → cond a Torn (cond b Torn (cond c Torn Whole)) ≡ Part → ⊥
-    go true b c f = true≢false (ap is_torn f)
-    go false true c f = true≢false (ap is_torn f)
-    go false false true f = true≢false (ap is_torn f)
-    go false false false f = true≢false (ap is_whole f)
+    go true b c f = cc
+    go false true c f = cc
+    go false false true f = cc
+    go false false false f = cc
 
 -- ---- a stream of which more comes begins as it did, unless with a part
 

@@ -1,7 +1,7 @@
 mod Fronts
 mod Heads
 mod Printing
-mod Rows
+mod Putting
 mod Running
 mod Turning
 pub mod AsTheRules

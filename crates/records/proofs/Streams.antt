@@ -9,15 +9,14 @@ use native.Mathlib.Omega.{arith}
 use lib.ListN.{length, drop}
 use borrow.Author.Tests.{le-ltb}
 use Rattle.rules.specs.Held.{World}
-use Rattle.records.specs.declared.Head.{Head}
-use Rattle.records.specs.declared.Head.TheVariants.{Whole, Torn, Part}
-use Rattle.records.specs.Records.{head_of}
+use Rattle.records.specs.Records.{Head, Whole, Torn, Part, head_of}
 use Rattle.records.specs.Lines.{line_most}
 use Rattle.records.specs.Runs.{Run, before, rests, turn, run}
 use Rattle.records.specs.Streams.{Round, stream, onward, rounds, Ended, whole, RoundsAreAFront, StreamsAreWhole}
 use Rattle.records.proofs.Heads.{part_empty}
 use Rattle.records.proofs.AsTheRules.{behind, first, next}
-use Rattle.records.proofs.Fronts.{whole_turns, Front, rests_front, more_came, front_onward, run_front}
+use Rattle.records.proofs.Running.{whole_turns}
+use Rattle.records.proofs.Fronts.{Front, rests_front, more_came, front_onward, run_front}
 
 rounds_front : (w : World) (ts : List Round) (later : List ℕ) → Ended ts later → (room : ℕ) → Front room w (stream ts) later (rounds w ts)
 rounds_front w [] later ended room = rests_front room w [] later

@@ -1,94 +1,72 @@
 -- The first record of a block, by what the code finds of it.
-use mathlib.Core.Path.{◌≡◌, refl, sym, ap, ◌∙◌}
-use mathlib.Core.Bool.{Bool, false, true≢false}
+use mathlib.Core.Path.{◌≡◌, refl, ap, ◌∙◌}
+use mathlib.Core.Bool.{Bool}
 use mathlib.Core.List.{List, [], ◌∷◌}
 use Prim.Native.Nat.{ℕ, ◌+◌, ◌-◌, ◌≤◌, ◌<◌}
 use native.Mathlib.Omega.{arith}
-use lib.ListN.{length, take, drop, length-drop}
+use lib.ListN.{length, drop, length-drop}
 use lib.Seq.{length-take-le}
 use borrow.Author.Tests.{lt-ltb, le-ltb}
-use Rattle.rules.specs.declared.Bridge.{Bridge}
-use Rattle.rules.specs.Held.{world}
-use Rattle.lent.specs.Rows.{Put}
 use Rattle.lent.proofs.Rows.{put_none}
-use Rattle.records.specs.declared.Head.{Head}
-use Rattle.records.specs.declared.Head.TheVariants.{Whole, Torn, Part}
-use Rattle.records.specs.declared.Printed.{Printed}
-use Rattle.records.specs.Records.{length_of, kind_of, torn, event_of, head_of}
+use Rattle.records.specs.declared.lines.Printer.{Printer}
+use Rattle.records.specs.declared.events.Bench.{Bench}
+use Rattle.records.specs.declared.events.Answered.{Answered}
+use Rattle.records.specs.declared.events.Turned.TheVariants.{Taken, Torn, Rests}
+use Rattle.records.specs.Records as R
+use Rattle.records.specs.Records.{length_of, kind_of, payload_of, event_of, head_of}
 use Rattle.records.specs.Lines.{torn_line, line_most}
-use Rattle.records.specs.Runs.{event_in}
-use Rattle.records.specs.Printed.{Prints, turned, Turns, is_whole}
+use Rattle.records.specs.Runs.{Run, rests, event_in, turn_in}
+use Rattle.records.specs.Puts.{Puts}
+use Rattle.records.specs.Printed.{world_of, Does, line_in, Turns}
 use Rattle.records.proofs.Heads.{whole_facts}
 
--- a head that is not whole says nothing of what goes on
-no : {A : Type 0} {h : Head} → is_whole h ≡ false → h ≡ Whole → A
-no f h = absurd (true≢false (sym (ap is_whole h) ∙ f))
+module _ (last : Bool) (old : Bench) (p : Printer) (s : List ℕ) where
+  abbrev room : ℕ
+  room = length p.output.now - p.at
 
-module _ (last : Bool) (b : Bridge) (bytes m s room : List ℕ) (at : ℕ) (inside : at ≤ length room) where
-  pub no_room : length room - at < line_most → Turns last (world b bytes m) s room at (turned Part b 0 at) bytes m room
-  no_room l = record {
+  nothing_taken : ((r : Run) → turn_in room last (world_of old) s r ≡ rests (world_of old)) → Turns last old p s Rests old p
+  nothing_taken none = record {
     events = [];
     printed = [];
-    stored = put_none room at;
-    fits = inside;
+    puts = record { same = refl; put = put_none p.output.now p.at };
     inside = omega arith;
-    same = λ r. rw (lt-ltb (length room - at) line_most l);
-    onward = no refl;
+    same = none;
+    onward = λ e. cc;
+    lent = record { bytes = refl; memory = refl };
   }
 
-  module _ (l : line_most ≤ length room - at) {h : Head} (is : h ≡ head_of last s) where
-    pub part_taken : h ≡ Part → Turns last (world b bytes m) s room at (turned h b 0 at) bytes m room
-    part_taken k = record {
-      events = [];
-      printed = [];
-      stored = put_none room at;
-      fits = inside;
-      inside = omega arith;
-      same = λ r. rw (le-ltb (length room - at) line_most l, ← is, k);
-      onward = no (ap is_whole k);
-    }
+  pub no_room : room < line_most → Turns last old p s Rests old p
+  no_room l = nothing_taken (λ r. rw (lt-ltb room line_most l))
 
-    pub torn_taken : h ≡ Torn → {now : List ℕ} {next : ℕ} → Put room at torn_line now next → Turns last (world b bytes m) s room at (turned h b 0 next) bytes m now
-    torn_taken k p = record {
+  module _ (l : line_most ≤ room) where
+    pub part_taken : R.Part ≡ head_of last s → Turns last old p s Rests old p
+    part_taken is = nothing_taken (λ r. rw (le-ltb room line_most l, ← is))
+
+    pub torn_taken : R.Torn ≡ head_of last s → {q : Printer} → Puts p torn_line q → Turns last old p s Torn old q
+    torn_taken is puts = record {
       events = [];
       printed = torn_line;
-      stored = p;
-      fits = omega (arith, p.moved);
+      puts = puts;
       inside = omega arith;
-      same = λ r. rw (le-ltb (length room - at) line_most l, ← is, k);
-      onward = no (ap is_whole k);
+      same = λ r. rw (le-ltb room line_most l, ← is);
+      onward = λ e. cc;
+      lent = record { bytes = refl; memory = refl };
     }
 
-    -- by its length and kind, as they were read
-    module _ (k : h ≡ Whole) {n kind : ℕ} (hn : n ≡ length_of s) (hk : kind ≡ kind_of s) where
-      abbrev payload : List ℕ
-      payload = take (4 + n - 4) (drop 4 s)
-
-      there : 4 + length_of s ≤ length s
-      there = (whole_facts last s is k).0
-
-      pub ends_inside : 4 + n ≤ length s
-      ends_inside = omega (arith, there)
-
-      pub not_torn : torn kind (length payload) ≡ false
-      not_torn =
-          let l : length payload ≡ length_of s = length-take-le (4 + n - 4) (drop 4 s) (rw length-drop (omega (arith, there))) ∙ omega arith in
-          rw (l, hk) (whole_facts last s is k).1
-
-      event_is : event_of kind payload ≡ event_in s
-      event_is = let cut : 4 + n - 4 ≡ length_of s = omega arith in rw (cut, hk)
-
-      pub whole_taken : {p : Printed} {bytes' memory now : List ℕ} → Prints (world b bytes m) (event_of kind payload) room at p bytes' memory now
-          → Turns last (world b bytes m) s room at (turned h p.bridge (4 + n) p.next) bytes' memory now
-      whole_taken {p} {bytes'} {memory} {now} said =
-          let prints : Prints (world b bytes m) (event_in s) room at p bytes' memory now = rw event_is at said in
-          let size : 4 + n ≡ 4 + length_of s = omega arith in
-          record {
-            events = event_in s ∷ [];
-            printed = _;
-            stored = prints.line;
-            fits = prints.fits;
-            inside = ends_inside;
-            same = λ r. rw (le-ltb (length room - at) line_most l, ← is, k, size);
-            onward = λ w. (refl, size, prints.next);
-          }
+    pub whole_taken : R.Whole ≡ head_of last s → {kind : ℕ} {payload : List ℕ} → kind ≡ kind_of s → payload ≡ payload_of s
+        → {a : Answered} {new : Bench} {q : Printer} → Does old (event_of kind payload) a new → Puts p (line_in new a) q
+        → Turns last old p s (Taken (4 + length payload)) new q
+    whole_taken is {kind} {payload} hk hp {a} {new} {q} said puts =
+        let does : Does old (event_in s) a new = rw (hk, hp) at said in
+        let there = (whole_facts last s is).0 in
+        let long : length payload ≡ length_of s = ap length hp ∙ length-take-le (length_of s) (drop 4 s) (rw length-drop (omega (arith, there))) in
+        let size : 4 + length payload ≡ 4 + length_of s = omega arith in
+        record {
+          events = event_in s ∷ [];
+          printed = _;
+          puts = rw does.line at puts;
+          inside = omega (arith, there);
+          same = λ r. rw (le-ltb room line_most l, ← is, size);
+          onward = λ e. (refl, size, does.next);
+          lent = does.lent;
+        }

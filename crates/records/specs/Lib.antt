@@ -1,5 +1,8 @@
 pub mod Records
+pub mod Kinds
+pub mod Heads
 pub mod Lines
 pub mod Runs
-pub mod Printed
 pub mod Streams
+pub mod Puts
+pub mod Printed

@@ -1,5 +1,6 @@
 -- Lines: "the number, then reply bytes or operations in upper-case hex, separated by spaces".
 use Rattle.std.specs.Prelude.{ℕ, ◌+◌, ◌/◌, ◌%◌, cond, List, [], ◌∷◌, ◌++◌, ltb}
+use Rattle.std.specs.List.{flat_map}
 use Rattle.rules.specs.Held.{World}
 use Rattle.rules.specs.Step.{Event, BusReset, Control, Packet, Report, StatusRequest, Burst, EndMark, Outcome}
 use Rattle.rules.specs.Promise.{handed_out}
@@ -21,9 +22,8 @@ hex_byte b = 0x20 ∷ two b
 abbrev pub hex_word : ℕ → List ℕ
 hex_word n = 0x20 ∷ two (n / 256) ++ two (n % 256)
 
-abbrev pub each : (ℕ → List ℕ) → List ℕ → List ℕ
-each f [] = []
-each f (x ∷ xs) = f x ++ each f xs
+abbrev pub each : {A : Type 0} → (A → List ℕ) → List A → List ℕ
+each f xs = flat_map f xs
 
 abbrev pub hex_of : Event → ℕ → List ℕ
 hex_of BusReset = hex_byte

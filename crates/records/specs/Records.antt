@@ -2,8 +2,12 @@
 use Rattle.std.specs.Prelude.{ℕ, ◌+◌, Bool, cond, not, ◌&&◌, ◌||◌, List, length, take, drop, eqb, leb, ltb}
 use Rattle.rules.specs.Words.{byte, word, long}
 use Rattle.rules.specs.Step.{Event, BusReset, Control, Packet, Report, StatusRequest}
-use Rattle.records.specs.declared.Head.{Head}
-use Rattle.records.specs.declared.Head.TheVariants.{Whole, Torn, Part}
+
+-- how a stream begins: with a whole record, a torn one, or a part of which more may come
+pub data Head : Type 0 where
+  Whole : Head
+  Torn : Head
+  Part : Head
 
 abbrev pub length_of : List ℕ → ℕ
 length_of s = word 0 s

@@ -3,10 +3,8 @@ use Rattle.std.specs.Prelude.{ℕ, zero, suc, ◌+◌, ◌-◌, ◌≤◌, ◌�
 use Rattle.rules.specs.Words.{laid}
 use Rattle.rules.specs.Held.{World, world}
 use Rattle.rules.specs.Step.{Event, step, rules, after}
-use Rattle.records.specs.declared.Head.{Head}
-use Rattle.records.specs.declared.Head.TheVariants.{Whole, Torn, Part}
 use Rattle.records.specs.declared.Ran.{Ran}
-use Rattle.records.specs.Records.{length_of, kind_of, payload_of, event_of, head_of}
+use Rattle.records.specs.Records.{Head, Whole, Torn, Part, length_of, kind_of, payload_of, event_of, head_of}
 use Rattle.records.specs.Lines.{line, torn_line, line_most}
 
 -- what was taken of the stream: the events, the lines that they print, the bytes that they fill, and whether a torn record ended it

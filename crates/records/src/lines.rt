@@ -1,87 +1,148 @@
-// Lines, put into the lent output. Each function returns the place behind what it puts.
-ghost use Rattle.std.specs.Prelude.{◌≡◌, ◌∷◌, [], ◌+◌, ◌*◌, ◌≤◌, ◌<◌, length, take};
-ghost use Rattle.lent.specs.Rows.{Put};
-ghost use Rattle.records.specs.Lines.{digit as digitOf, number, two, hex_byte, hex_word, each, torn_line};
+// Lines, put into the lent output one behind the other.
+ghost use Rattle.std.specs.Prelude.{◌≡◌, [], ◌∷◌, ◌-◌, ◌≤◌, ◌<◌, length, List, ℕ};
+ghost use Rattle.rules.specs.Numbered.{answer_of, count_of};
+ghost use Rattle.records.specs.Lines.{digit as digitOf, number, two, hex_byte, hex_word, each};
 
-const SPACE: u8 = 0x20;
+use rules::refusals::Refusal;
 
-const NEWLINE: u8 = 0x0A;
+// The lent output, and the place in it behind all that was put.
+#[derive(Drop)]
+pub(crate) struct Printer<'a> {
+    output: &'a mut [u8],
+    at: usize,
+    ghost inside: { at ≤ length output.now },
+}
 
-// 0 to 9, then A on.
+// What a line has in hex, behind a space.
+pub(crate) trait Hex: Copy {
+    ghost use Rattle.records.specs.Puts.{Puts, Room};
+
+    ghost hex: { Self → List ℕ };
+
+    fn put_hex(self, printer: &mut Printer)
+        requires { Room printer.old (hex self) }
+        ensures { Puts printer.old (hex self) printer.new };
+}
+
+impl Hex for u8 {
+    ghost use Rattle.records.specs.Puts.{Puts, Room};
+
+    ghost hex = { hex_byte };
+
+    fn put_hex(self, printer: &mut Printer) {
+        printer.put(b' ');
+        printer.put_two(self);
+    }
+}
+
+impl Hex for u16 {
+    ghost use Rattle.records.specs.Puts.{Puts, Room};
+
+    ghost hex = { hex_word };
+
+    fn put_hex(self, printer: &mut Printer) {
+        let [high, low] = self.to_be_bytes();
+        printer.put(b' ');
+        printer.put_two(high);
+        printer.put_two(low);
+    }
+}
+
+// 0 to 9, then A on. By hand, since `write!` into what is lent would take an impl of `fmt::Write`, and its error, for these two lines.
 fn digit(d: u8) -> u8
     requires { d < 36 }
     ensures { result ≡ digitOf d }
 {
-    if d < 10 { 0x30 + d } else { 0x37 + d }
+    if d < 10 { b'0' + d } else { b'A' + (d - 10) }
 }
 
-fn put_two(byte: u8, output: &mut [u8], at: usize) -> usize
-    requires { at + 2 ≤ length output.old }
-    ensures { Put output.old at (two byte) output.new result }
+// "0 done", and else the refusal's.
+fn number_of(answer: Result<u16, Refusal>) -> u8
+    ensures { result ≡ answer_of answer }
 {
-    output[at] = digit(byte / 16);
-    output[at + 1] = digit(byte % 16);
-    at + 2
-}
-
-pub(crate) fn put_number(n: u8, output: &mut [u8], at: usize) -> usize
-    requires { at + 2 ≤ length output.old }
-    ensures { Put output.old at (number n) output.new result }
-{
-    if n < 10 {
-        output[at] = digit(n);
-        return at + 1;
+    match answer {
+        Ok(_) => 0,
+        Err(refusal) => u8::from(refusal),
     }
-    output[at] = digit(n / 10);
-    output[at + 1] = digit(n % 10);
-    at + 2
 }
 
-pub(crate) fn put_bytes(bytes: &[u8], n: usize, output: &mut [u8], at: usize) -> usize
-    requires { (n ≤ length bytes.now) × (at + 3 * n ≤ length output.old) }
-    ensures { Put output.old at (each hex_byte (take n bytes.now)) output.new result }
-{
-    let mut next = at;
-    let mut i = 0;
-    while i < n {
-        output[next] = SPACE;
-        next = put_two(bytes[i], output, next + 1);
-        i += 1;
+impl<'a> Printer<'a> {
+    ghost use Rattle.records.specs.Puts.{Puts, Room, line_of};
+
+    pub(crate) fn new(output: &'a mut [u8]) -> Self
+        ensures same_reference { result.output.ghost_name ≡ output.entry.ghost_name }
+        ensures blank { (result.at ≡ 0) × (result.output.now ≡ output.old) }
+    {
+        Printer { output, at: 0 }
     }
-    next
-}
 
-pub(crate) fn put_words(words: &[u16], n: usize, output: &mut [u8], at: usize) -> usize
-    requires { (n ≤ length words.now) × (at + 5 * n ≤ length output.old) }
-    ensures { Put output.old at (each hex_word (take n words.now)) output.new result }
-{
-    let mut next = at;
-    let mut i = 0;
-    while i < n {
-        let word = words[i];
-        output[next] = SPACE;
-        next = put_two((word / 256) as u8, output, next + 1);
-        next = put_two((word % 256) as u8, output, next);
-        i += 1;
+    // The bytes that are left.
+    pub(crate) fn room(&self) -> usize
+        ensures { result ≡ length self.now.output.now - self.now.at }
+    {
+        self.output.len() - self.at
     }
-    next
-}
 
-pub(crate) fn put_end(output: &mut [u8], at: usize) -> usize
-    requires { at + 1 ≤ length output.old }
-    ensures { Put output.old at (0x0A ∷ []) output.new result }
-{
-    output[at] = NEWLINE;
-    at + 1
-}
+    pub(crate) fn written(&self) -> usize
+        ensures { result ≡ self.now.at }
+    {
+        self.at
+    }
 
-pub(crate) fn put_torn(output: &mut [u8], at: usize) -> usize
-    requires { at + 5 ≤ length output.old }
-    ensures { Put output.old at torn_line output.new result }
-{
-    output[at] = b't';
-    output[at + 1] = b'o';
-    output[at + 2] = b'r';
-    output[at + 3] = b'n';
-    put_end(output, at + 4)
+    fn put(&mut self, byte: u8)
+        requires { Room self.old (byte ∷ []) }
+        ensures { Puts self.old (byte ∷ []) self.new }
+    {
+        self.output[self.at] = byte;
+        self.at += 1;
+    }
+
+    #[tactic(auto, using(crate::proofs::Putting::put_text))]
+    pub(crate) fn put_text(&mut self, text: &[u8])
+        requires { Room self.old text.now }
+        ensures { Puts self.old text.now self.new }
+    {
+        let end = self.at + text.len();
+        self.output[self.at..end].copy_from_slice(text);
+        self.at = end;
+    }
+
+    fn put_two(&mut self, byte: u8)
+        requires { Room self.old (two byte) }
+        ensures { Puts self.old (two byte) self.new }
+    {
+        self.put(digit(byte / 16));
+        self.put(digit(byte % 16));
+    }
+
+    fn put_number(&mut self, n: u8)
+        requires { Room self.old (number n) }
+        ensures { Puts self.old (number n) self.new }
+    {
+        if n >= 10 {
+            self.put(digit(n / 10));
+        }
+        self.put(digit(n % 10));
+    }
+
+    fn put_each<T: Hex>(&mut self, all: &[T])
+        requires { Room self.old (each T.hex all.now) }
+        ensures { Puts self.old (each T.hex all.now) self.new }
+    {
+        for one in all {
+            one.put_hex(self);
+        }
+    }
+
+    // The line of an answer, with as much of `out` as was handed out.
+    pub(crate) fn put_line<T: Hex>(&mut self, answer: Result<u16, Refusal>, out: &[T])
+        requires there { count_of answer ≤ length out.now }
+        requires room { Room self.old (line_of T.hex answer out.now) }
+        ensures { Puts self.old (line_of T.hex answer out.now) self.new }
+    {
+        self.put_number(number_of(answer));
+        let count = answer.unwrap_or(0) as usize;
+        self.put_each(&out[..count]);
+        self.put(b'\n');
+    }
 }

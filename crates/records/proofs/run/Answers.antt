@@ -1,18 +1,22 @@
 -- A turn takes the first record of what is left, and at the end nothing is left to take.
-use Rattle.std.proofs.Common.{◌∙◌, refl}
-use Rattle.records.proofs.Running.{starts, turns_on, ends}
+use Rattle.std.proofs.Common.{rules}
+use Rattle.records.proofs.Running.{starts, goes, ends}
 use Rattle.records.proofs.run.Goals as goal
+use Rattle.records.proofs.run.Goals.{in-Torn, in-Rests}
 
-pub loop-records-init : goal.loop-records-init
-loop-records-init c = (starts _ _ _ _ _ refl, refl, refl)
+pub loop-n-init : goal.loop-n-init
+loop-n-init c = starts c.args.last c.args.input.now c.new-bench.result c.new-printer.result
 
-pub loop-records-preserved : goal.loop-records-preserved
-loop-records-preserved c = (
-  turns_on _ _ _ _ c.loop-records.invariant.0 c.is_whole.ensures c.loop-records-test.true c.turn-t.ensures,
-  c.turn-t.auto.memory ∙ c.loop-records.invariant.1,
-  c.turn-t.auto.reply ∙ c.loop-records.invariant.2,
-)
+pub loop-n-preserved : goal.loop-n-preserved
+loop-n-preserved c = goes c.args.last c.args.input.now c.new-bench.result c.new-printer.result c.loop-n.invariant c.turn.ensures c.in-Taken.is
 
 pub returns-clause-output_after : goal.returns-clause-output_after
 returns-clause-output_after c =
-    ends _ _ _ _ c.loop-records.invariant.0 c.is_whole.ensures c.loop-records-test.false c.is_torn.ensures
+    let so = c.loop-n.invariant in
+    let turn = c.turn.ensures in
+    let lent = c.new-bench.ensures.as_lent in
+    let blank = c.new-printer.ensures.blank in
+    elim c.match-turn.branch [
+      | in-Torn w ↦ ends c.args.last c.args.input.now c.new-bench.result c.new-printer.result so turn (rw w.in-Torn.is) (λ r. rw (w.in-Torn.is, w.torn-is)) lent blank.0 blank.1 c.written.ensures (search rules) (search rules) (search rules)
+      | in-Rests w ↦ ends c.args.last c.args.input.now c.new-bench.result c.new-printer.result so turn (rw w.in-Rests.is) (λ r. rw (w.in-Rests.is, w.torn-is)) lent blank.0 blank.1 c.written.ensures (search rules) (search rules) (search rules)
+    ]

@@ -1,0 +1,8 @@
+-- The first of them stand there, and there is room for the others.
+use Rattle.std.proofs.Common.{take, drop}
+use Rattle.records.specs.Lines.{each}
+use Rattle.records.specs.Puts.{Puts, Room}
+use Rattle.records.proofs.lines.Printer.put_each.Given as goal
+
+abbrev pub invariant-loop-one : goal.invariant-loop-one
+invariant-loop-one g l = Puts l.initial.self (each g.T.Hex.hex (take l.one-index l.all)) l.self × Room l.self (each g.T.Hex.hex (drop l.one-index l.all))
