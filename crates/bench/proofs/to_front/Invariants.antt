@@ -1,9 +1,0 @@
--- No byte is moved past the n that are to be moved.
-use Rattle.std.proofs.Common.{◌-◌, ◌≤◌}
-use Rattle.bench.proofs.to_front.Given as goal
-
-abbrev pub invariant-loop-i : goal.invariant-loop-i
-invariant-loop-i l = l.i ≤ l.n
-
-abbrev pub decreases-loop-i : goal.decreases-loop-i
-decreases-loop-i l = l.n - l.i
