@@ -1,54 +1,55 @@
 -- Laws of the exported calls: what is left in the image and returned, from what the event promises.
 use mathlib.Core.Path.{◌≡◌, refl, sym, ap, ◌∙◌}
-use mathlib.Core.Bool.{false, true≢false}
+use mathlib.Core.Bool.{false}
 use mathlib.Core.List.{List, [], ◌++◌}
 use Prim.Native.Nat.{ℕ, ◌≤◌}
-use lib.ListN.{length, take, drop, take-append-drop}
+use lib.ListN.{length, drop, take-append-drop}
 use lib.Seq.{length-take-le}
+use Rattle.std.specs.Prelude.{Ok, Err}
 use Rattle.rules.specs.declared.Bridge.{Bridge}
 use Rattle.rules.specs.declared.Request.{Request}
 use Rattle.rules.specs.declared.Change.TheVariants.{Nothing, Drops}
-use Rattle.rules.specs.declared.Phase.{Phase}
-use Rattle.rules.specs.declared.Phase.TheVariants.{Awaiting, Busy, StatusWaiting, Stopped}
 use Rattle.rules.specs.declared.Setup.{Setup}
-use Rattle.rules.specs.declared.Stands.TheVariants.{InRoom, InMemory}
+use Rattle.rules.specs.declared.Stands.TheVariants.{InMemory}
 use Rattle.rules.specs.declared.addresses.Address.{Address}
-use Rattle.rules.specs.Words.{byte, first}
-use Rattle.rules.specs.Held.{world, is_busy}
+use Rattle.rules.specs.declared.refusals.Refusal.{Refusal}
+use Rattle.rules.specs.Numbered.{refusal_number, numbered, checked}
+use Rattle.rules.specs.Words.{first}
+use Rattle.rules.specs.Held.{world}
 use Rattle.rules.specs.Packets.{signature_of}
 use Rattle.rules.specs.Bursts.{kept}
 use Rattle.rules.specs.Answers.{unawaited_checks}
 use Rattle.rules.specs.Step.{Event, Control, Packet, Burst, EndMark, step, change}
 use Rattle.rules.specs.Promise.{left_at, leaves, served}
 use Rattle.rules.specs.Demands.Bursts.{is_end_mark}
+use Rattle.rules.proofs.Numbered.{not_done}
 use Rattle.rules.proofs.Promises.{packet_unawaited}
-use Rattle.rules.proofs.Bursts.{held_length, leaves_unheld, served_unheld, end_mark_leaves}
+use Rattle.rules.proofs.Bursts.{leaves_unheld, served_unheld, end_mark_leaves}
 use Rattle.outcomes.specs.declared.Outcome.{Outcome}
 use Rattle.outcomes.specs.Outcomes.{outcome, left_by}
 use Rattle.packets.specs.Awaited.{Awaits}
-use Rattle.packets.proofs.Commands.{awaits}
-use Rattle.image.specs.declared.Fragments.{Fragments}
-use Rattle.image.specs.Image.{bytes_of, held_of, decode, world_of, held_in, put, added}
-use Rattle.thrandue.specs.Calls.{called, returns, holds, in_image, calls, CallTold, busy_lun}
+use Rattle.packets.proofs.Commands.{awaits, checked_ok, checked_err}
+use Rattle.image.specs.Image.{bytes_of, held_of, decode, world_of, added}
+use Rattle.thrandue.specs.Calls.{called, returns, LeftInImage, holds, in_image, calls, CallTold}
 
 module _ (image memory : List ℕ) (event : ℕ → Event) (room : List ℕ) (o : Outcome) {memory' room' : List ℕ} where
   -- with the configuration bytes written
   pub written : {bytes now : List ℕ} → left_by o bytes memory' room' ≡ leaves (world_of image memory) event room
       → now ≡ holds (event (length room)) (bytes ++ drop 16 image)
-      → {returned : ℕ} {image' : List ℕ} → (returned ≡ returns o.answer o.count InRoom) × (image' ≡ put o.change now)
+      → {returned : ℕ} {image' : List ℕ} → LeftInImage o now returned image'
       → called returned image' memory' room' ≡ calls image memory event room
   written l n r = rw (r.0, r.1, n) (ap (in_image (event (length room)) image) l)
 
   -- .. or as they were
   pub unwritten : left_by o (bytes_of image) memory' room' ≡ leaves (world_of image memory) event room
-      → {returned : ℕ} {image' : List ℕ} → (returned ≡ returns o.answer o.count InRoom) × (image' ≡ put o.change (holds (event (length room)) image))
+      → {returned : ℕ} {image' : List ℕ} → LeftInImage o (holds (event (length room)) image) returned image'
       → called returned image' memory' room' ≡ calls image memory event room
   unwritten l r = written l (ap (holds (event (length room))) (sym (take-append-drop 16 image))) r
 
   -- .. by a promise that says nothing of what is held, which only an end mark looks at
   pub told : is_end_mark (event (length room)) ≡ false
       → left_by o (bytes_of image) memory' room' ≡ leaves (world (decode image) (bytes_of image) memory) event room
-      → {returned : ℕ} {image' : List ℕ} → (returned ≡ returns o.answer o.count InRoom) × (image' ≡ put o.change (holds (event (length room)) image))
+      → {returned : ℕ} {image' : List ℕ} → LeftInImage o (holds (event (length room)) image) returned image'
       → called returned image' memory' room' ≡ calls image memory event room
   told h l r = unwritten (l ∙ sym (leaves_unheld (world (decode image) (bytes_of image) memory) (held_of image) (event (length room)) room h)) r
 
@@ -57,7 +58,7 @@ module _ (image memory : List ℕ) (setup host room : List ℕ) where
   pub granted : (o : Outcome) {memory' room' : List ℕ} (q : Request) (s : Setup) {bytes now : List ℕ} {b : Bridge} → b ≡ decode image
       → left_by o bytes memory' room' ≡ served q s host (world b (bytes_of image) memory) room
       → served q s host (world_of image memory) room ≡ leaves (world_of image memory) (Control setup host) room → now ≡ bytes ++ drop 16 image
-      → {returned : ℕ} {image' : List ℕ} → (returned ≡ returns o.answer o.count InRoom) × (image' ≡ put o.change now)
+      → {returned : ℕ} {image' : List ℕ} → LeftInImage o now returned image'
       → called returned image' memory' room' ≡ calls image memory (Control setup host) room
   granted o q s e l g n r =
       written image memory (Control setup host) room o
@@ -74,22 +75,25 @@ module _ (image memory : List ℕ) (setup host room : List ℕ) where
 
 -- ---- a packet, by what the checks of the bridge alone say, of the state as it was loaded
 
-module _ (image : List ℕ) {n : ℕ} {b : Bridge} (says : n ≡ first (unawaited_checks b)) (loaded : b ≡ decode image) where
-  pub unawaited_told : (p room : List ℕ) → (n ≡ 0 → ⊥) → {returned : ℕ} {image' : List ℕ}
-      → (returned ≡ returns n 0 InRoom) × (image' ≡ put Drops image) → CallTold image (Packet p) room returned image' room
-  unawaited_told p room other r memory =
-      told image memory (Packet p) room (outcome n 0 Nothing) refl
-      (packet_unawaited (decode image) (signature_of (bytes_of image)) p room n (rw loaded at says) other (bytes_of image) memory refl) r
+module _ (image : List ℕ) {b : Bridge} (loaded : b ≡ decode image) where
+  pub unawaited_told : (e : Refusal) → numbered {A = Unit {0}} (Err e) ≡ checked (tt {0}) (first (unawaited_checks b)) → (p room : List ℕ) → {returned : ℕ} {image' : List ℕ}
+      → LeftInImage (outcome (Err e) Drops) image returned image' → CallTold image (Packet p) room returned image' room
+  unawaited_told e says p room r memory =
+      told image memory (Packet p) room (outcome (Err e) Nothing) refl
+      (packet_unawaited (decode image) (signature_of (bytes_of image)) p room (refusal_number e) (rw loaded at (checked_err tt (first (unawaited_checks b)) e says)) (not_done e)
+      (bytes_of image) memory refl)
+      r
 
-  pub awaits_told : n ≡ 0 → Awaits (decode image).dock.drives (decode image)
-  awaits_told z = awaits (decode image) (sym (rw loaded at says) ∙ z)
+  pub awaits_told : numbered {A = Unit {0}} (Ok (tt {0})) ≡ checked (tt {0}) (first (unawaited_checks b)) → Awaits (decode image).dock.drives (decode image)
+  awaits_told says = awaits (decode image) (rw loaded at (checked_ok tt tt (first (unawaited_checks b)) says).0)
 
 -- ---- a packet in bursts
 
 -- a burst that is added
-pub burst_told : (image burst : List ℕ) {image' : List ℕ} → image' ≡ added burst image → CallTold image (λ n. Burst burst) [] 0 image' []
+pub burst_told : (image burst : List ℕ) {returned : ℕ} {image' : List ℕ} → returned ≡ 0 → image' ≡ added burst image
+    → CallTold image (λ n. Burst burst) [] returned image' []
 unfolding step change
-burst_told image burst e memory = rw e (ap (λ (i : List ℕ). called 0 (added burst i) memory []) (sym (take-append-drop 16 image)))
+burst_told image burst r e memory = rw (r, e) (ap (λ (i : List ℕ). called 0 (added burst i) memory []) (sym (take-append-drop 16 image)))
 
 -- an end mark, where what is held was judged as a packet
 pub end_mark_told : (image p room : List ℕ) → held_of image ≡ kept p → {returned : ℕ} {image' room' : List ℕ}
@@ -97,17 +101,6 @@ pub end_mark_told : (image p room : List ℕ) → held_of image ≡ kept p → {
 end_mark_told image p room h t memory =
     t memory ∙ ap (in_image (EndMark (length room)) image) (sym (end_mark_leaves (world_of image memory) p room h))
 
--- what is held, by value, is no more than its room
-pub counted : (image : List ℕ) (f : Fragments) → f ≡ held_in image → f.count ≤ 32
-counted image f e = rw e (held_length (take (byte 61 image) (drop 30 image)))
-
 -- the configuration bytes are sixteen
 pub sixteen : (image : List ℕ) → 16 ≤ length image → length (bytes_of image) ≡ 16
 sixteen image h = length-take-le 16 image h
-
--- a bridge that is not busy is busy with no LUN
-pub no_lun : (p : Phase) → is_busy p ≡ false → busy_lun p ≡ 0xFF
-no_lun Awaiting h = refl
-no_lun (Busy direction lun tag l) h = absurd (true≢false h)
-no_lun (StatusWaiting tag residue status) h = refl
-no_lun (Stopped reset) h = refl

@@ -20,9 +20,8 @@ use Rattle.rules.proofs.Demands.Boundary.{after_append, silence, resumption}
 use Rattle.rules.proofs.Bursts.{held_by_change}
 use Rattle.rules.proofs.Demands.Settings.{keeps_count, saved_is_restored}
 use Rattle.rules.proofs.Demands.Sizes.{Measured, sized, stepped, measured, measured_on}
-use Rattle.settings.specs.declared.Reading.{Reading}
 use Rattle.settings.specs.declared.Settings.{Settings}
-use Rattle.settings.specs.Store.{settings_from, read_by, newest, in_force}
+use Rattle.settings.specs.Store.{Reading, settings_from, read_by, newest, in_force}
 use Rattle.settings.specs.Stores.{accepted}
 use Rattle.settings.proofs.Stores.{settings_come_back, refused_shows_nothing}
 use Rattle.image.specs.Image.{powered, world_of, dropped, put, added}

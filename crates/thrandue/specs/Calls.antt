@@ -7,13 +7,14 @@ use Rattle.rules.specs.declared.Phase.TheVariants.{Awaiting, Busy, StatusWaiting
 use Rattle.rules.specs.declared.Stands.{Stands}
 use Rattle.rules.specs.declared.Stands.TheVariants.{InRoom, InMemory}
 use Rattle.rules.specs.Words.{one}
+use Rattle.rules.specs.Numbered.{answer_of, count_of}
 use Rattle.rules.specs.declared.Change.TheVariants.{Drops}
 use Rattle.rules.specs.Descriptors.{number_of as start_of}
 use Rattle.rules.specs.Step.{Event, BusReset, Control, Packet, Report, StatusRequest, Burst, EndMark}
 use Rattle.rules.specs.Held.{lun_number, docked, starting}
 use Rattle.rules.specs.Promise.{Left, leaves}
-use Rattle.settings.specs.declared.Reading.{Reading}
-use Rattle.settings.specs.Store.{in_force}
+use Rattle.outcomes.specs.declared.Outcome.{Outcome}
+use Rattle.settings.specs.Store.{Reading, in_force}
 use Rattle.image.specs.Image.{world_of, powered, put, added}
 
 -- the number that a call returns, the image, the memory, and the lent room
@@ -30,6 +31,10 @@ called returned image memory room = record { returned = returned; image = image;
 abbrev pub returns : ℕ → ℕ → Stands → ℕ
 returns answer count InRoom = answer + 256 * count
 returns answer count (InMemory at) = answer + 256 * count + 0x100000000 * (0x10000 + start_of at)
+
+-- what an outcome returns, and leaves in an image
+abbrev pub LeftInImage : Outcome → List ℕ → ℕ → List ℕ → Type 0
+LeftInImage o image returned image' = (returned ≡ returns (answer_of o.answer) (count_of o.answer) InRoom) × (image' ≡ put o.change image)
 
 -- what an event makes of what is held, in an image, beside what its change does
 abbrev pub holds : Event → List ℕ → List ℕ

@@ -1,41 +1,43 @@
 // The bridge for C: thin exported calls on numbers and lent bytes. host/thrandue.h is what a caller reads.
 #![tactic(auto)]
 
-ghost use Rattle.std.specs.Prelude.{◌≡◌, [], ◌++◌, ◌≤◌, length, drop};
+ghost use Rattle.std.specs.Prelude.{◌≡◌, [], ◌++◌, length, drop};
 ghost use Rattle.outcomes.specs.Outcomes.{left_by};
 ghost use Rattle.rules.specs.Held.{world, page_of, drives_of, docked, by_default, configuration};
+ghost use Rattle.rules.specs.Numbered.{answer_of, count_of};
 ghost use Rattle.rules.specs.Promise.{served};
 ghost use Rattle.rules.specs.declared.Stands.TheVariants.{InRoom, InMemory};
 ghost use Rattle.rules.specs.Step.{BusReset, Control, Report, StatusRequest};
-ghost use Rattle.settings.specs.Store.{read_by, newest, in_force};
-ghost use Rattle.image.specs.Image.{bytes_of, decode, held_of, powered, put};
-ghost use Rattle.thrandue.specs.Calls.{called, returns, calls, CallTold, powered_by, phase_number, busy_lun, halt_number};
+ghost use Rattle.settings.specs.Store.{reading, read_by, newest, in_force};
+ghost use Rattle.image.specs.Image.{bytes_of, decode, held_of, powered};
+ghost use Rattle.thrandue.specs.Calls.{called, returns, LeftInImage, calls, CallTold, powered_by, phase_number, busy_lun, halt_number};
 
 mod commands;
 
 use bridge::Outcome;
+use descriptors::Part;
 use image::IMAGE;
-use requests::Judgement;
-use rules::addresses::Address;
-use rules::{Bridge, Dock, Drives, PageSize, Phase, Request, Setup, answers};
-use settings::Reading;
+use requests::Granted;
+use rules::refusals::{Refusal, returned};
+use rules::{Bridge, Dock, Drives, PageSize, Phase, Request, Setup};
+use settings::Settings;
 
 const NO_LUN: u8 = 0xFF;
 
-// What an event leaves in the image and returns.
+// What an event leaves in the image and returns. Out of line it gets an outcome through memory, and a status request takes twice the instructions.
+#[inline(always)]
 fn leave(image: &mut [u8; IMAGE], o: Outcome) -> u32
-    ensures { (result ≡ returns o.answer o.count InRoom) × (image.new ≡ put o.change image.old) }
+    ensures { LeftInImage o image.old result image.new }
 {
-    let change = o.change;
-    image::make(image, change);
-    o.answer as u32 + 256 * o.count as u32
+    image::make(image, o.change);
+    returned(o.answer)
 }
 
 // What a request for a descriptor returns that is found.
-fn found(at: Address, count: u16) -> u64
-    ensures { result ≡ returns 0 count (InMemory at) }
+fn found(part: Part) -> u64
+    ensures { result ≡ returns 0 part.length (InMemory part.start) }
 {
-    256 * count as u64 + 0x100000000 * (0x10000 + at.number() as u64)
+    256 * part.length as u64 + 0x100000000 * (0x10000 + u16::from(part.start) as u64)
 }
 
 // A granted request, with the configuration bytes at the front of the image.
@@ -43,26 +45,21 @@ fn serve(
     r: Request,
     s: Setup,
     b: Bridge,
-    image: &mut [u8],
+    image: &mut [u8; IMAGE],
     host: &[u8],
     memory: &mut [u8],
     reply: &mut [u8],
 ) -> Outcome
-    requires { 16 ≤ length image.old }
     ensures { (left_by result (bytes_of image.new) memory.new reply.new ≡ served r s host.now (world b (bytes_of image.old) memory.old) reply.old) × (image.new ≡ bytes_of image.new ++ drop 16 image.old) }
 {
-    bridge::serve(r, s, b, &mut image[0..16], host, memory, reply)
+    bridge::serve(r, s, b, &mut image[..16], host, memory, reply)
 }
 
 // An accepted store's page size replaces the number given.
-fn in_force(given: PageSize, reading: Reading) -> PageSize
-    ensures { result ≡ in_force given reading }
+fn in_force(given: PageSize, read: Result<Settings, Refusal>) -> PageSize
+    ensures { result ≡ in_force given (reading read) }
 {
-    if reading.answer == answers::DONE {
-        let settings = reading.settings;
-        return settings.page;
-    }
-    given
+    read.map_or(given, |settings| settings.page)
 }
 
 #[unsafe(no_mangle)]
@@ -75,12 +72,12 @@ pub extern "C" fn thrandue_power_on(
     ensures { called result image.new [] [] ≡ called 0 (powered (by_default (docked bus_powered (page_of page) (drives_of drives)))) [] [] }
 {
     let dock = Dock {
-        bus_powered: bus_powered,
-        page: PageSize::of(page),
-        drives: Drives::of(drives),
+        bus_powered,
+        page: PageSize::from(page),
+        drives: Drives::from(drives),
     };
     image::power_on(image, dock);
-    answers::DONE as u32
+    returned(Ok(0))
 }
 
 // .. with the settings of a store; one that is refused leaves the defaults.
@@ -94,15 +91,14 @@ pub extern "C" fn thrandue_power_on_with_store(
 ) -> u32
     ensures { called result image.new [] [] ≡ powered_by (docked bus_powered (page_of page) (drives_of drives)) (read_by newest store.now) }
 {
-    let reading = settings::read(store);
-    let bytes = reading.settings.bytes;
+    let read = settings::read(store);
     let dock = Dock {
-        bus_powered: bus_powered,
-        page: in_force(PageSize::of(page), reading),
-        drives: Drives::of(drives),
+        bus_powered,
+        page: in_force(PageSize::from(page), read),
+        drives: Drives::from(drives),
     };
-    image::power_on_with(image, dock, &bytes);
-    reading.answer as u32
+    image::power_on_with(image, dock, &read.unwrap_or_default().bytes);
+    returned(read.map(|_| 0))
 }
 
 #[unsafe(no_mangle)]
@@ -122,15 +118,14 @@ pub extern "C" fn thrandue_control(
 ) -> u64
     ensures { called result image.new memory.new reply.new ≡ calls image.old memory.old (Control setup.now host.now) reply.old }
 {
-    let judgement = requests::judge(image::seen(image), memory, setup, host.len(), reply.len());
-    match judgement {
-        Judgement::Refused(answer) => answer as u64,
-        Judgement::Granted(r, s) => {
+    match requests::judge(image::seen(image), memory, setup, host.len(), reply.len()) {
+        Ok(Granted::Request(r, s)) => {
             let b = image::load(image);
             let o = serve(r, s, b, image, host, memory, reply);
             leave(image, o) as u64
         }
-        Judgement::Found(at, count) => found(at, count),
+        Ok(Granted::Descriptor(part)) => found(part),
+        Err(refusal) => returned(Err(refusal)) as u64,
     }
 }
 
@@ -159,21 +154,10 @@ pub extern "C" fn thrandue_status(image: &mut [u8; IMAGE], reply: &mut [u8]) -> 
 pub extern "C" fn thrandue_phase(image: &[u8; IMAGE]) -> u8
     ensures { result ≡ phase_number (decode image.now) }
 {
-    let b = image::load(image);
-    let phase = b.phase;
-    match phase {
+    match image::load(image).phase {
         Phase::Awaiting => 0,
-        Phase::Busy {
-            direction: _,
-            lun: _,
-            tag: _,
-            length: _,
-        } => 1,
-        Phase::StatusWaiting {
-            tag: _,
-            residue: _,
-            status: _,
-        } => 2,
+        Phase::Busy { .. } => 1,
+        Phase::StatusWaiting { .. } => 2,
         Phase::Stopped { reset } => 3 + reset as u8,
     }
 }
@@ -183,22 +167,9 @@ pub extern "C" fn thrandue_phase(image: &[u8; IMAGE]) -> u8
 pub extern "C" fn thrandue_lun(image: &[u8; IMAGE]) -> u8
     ensures { result ≡ busy_lun (decode image.now).phase }
 {
-    let b = image::load(image);
-    let phase = b.phase;
-    match phase {
-        Phase::Busy {
-            direction: _,
-            lun,
-            tag: _,
-            length: _,
-        } => lun.number(),
-        Phase::Awaiting
-        | Phase::StatusWaiting {
-            tag: _,
-            residue: _,
-            status: _,
-        }
-        | Phase::Stopped { reset: _ } => NO_LUN,
+    match image::load(image).phase {
+        Phase::Busy { lun, .. } => u8::from(lun),
+        _ => NO_LUN,
     }
 }
 
@@ -206,16 +177,15 @@ pub extern "C" fn thrandue_lun(image: &[u8; IMAGE]) -> u8
 pub extern "C" fn thrandue_configuration(image: &[u8; IMAGE]) -> u8
     ensures { result ≡ configuration (decode image.now) }
 {
-    let b = image::load(image);
-    if b.configured { 2 } else { 0 }
+    if image::load(image).configured { 2 } else { 0 }
 }
 
 #[unsafe(no_mangle)]
 pub extern "C" fn thrandue_halts(image: &[u8; IMAGE]) -> u8
     ensures { result ≡ halt_number (decode image.now) }
 {
-    let b = image::load(image);
-    b.halts.outward as u8 + 2 * b.halts.inward as u8
+    let halts = image::load(image).halts;
+    halts.outward as u8 + 2 * halts.inward as u8
 }
 
 // How many bytes are held; 32 where they are too many.
@@ -223,6 +193,5 @@ pub extern "C" fn thrandue_halts(image: &[u8; IMAGE]) -> u8
 pub extern "C" fn thrandue_held(image: &[u8; IMAGE]) -> u8
     ensures { result ≡ length (held_of image.now) }
 {
-    let held = image::held(image);
-    held.count as u8
+    image::held(image).bytes().len() as u8
 }
