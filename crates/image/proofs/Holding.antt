@@ -14,7 +14,7 @@ use Rattle.rules.specs.Bursts.{kept}
 use Rattle.rules.proofs.Bursts.{held_whole, held_too_long, held_behind}
 use Rattle.rules.proofs.Rows.{over-length, over-laid, over_pastes}
 use Rattle.image.proofs.Rows.{by_bytes, copied_back}
-use Rattle.image.specs.Image.{world_of, added, BurstInStep, BehindTheCount}
+use Rattle.image.specs.Image.{world_of, held_in, counted, added, BurstInStep, BehindTheCount}
 
 -- ---- how a burst is added
 
@@ -92,6 +92,9 @@ module _ (image : List ℕ) (h : length image ≡ 62) where
   pub count_in_tail : byte 61 image ≡ byte 31 (drop 30 image)
   count_in_tail = by_bytes 62 image h (λ i. byte 61 i ≡ byte 31 (drop 30 i)) refl
 
+  pub counted_held : counted (held_in image) ≡ take (byte 61 image) (drop 30 image)
+  counted_held = ap (λ (k : ℕ). take k (drop 30 image)) (sym count_in_tail)
+
   set_in_tail : (v : ℕ) → set image 61 v ≡ take 30 image ++ set (drop 30 image) 31 v
   set_in_tail v = by_bytes 62 image h (λ i. set i 61 v ≡ take 30 i ++ set (drop 30 i) 31 v) refl
 
@@ -131,8 +134,8 @@ burst_in_step burst image memory h = go (ltb 31 (n + length burst)) refl
 -- ---- behind the count
 
 module _ (held held' : List ℕ) (count : ℕ) (long : length held ≡ 31) (long' : length held' ≡ 31) where
-  counted : (s : List ℕ) → length s ≡ 31 → byte 31 (s ++ count ∷ []) ≡ count
-  counted s e = ap (λ (k : ℕ). byte k (s ++ count ∷ [])) (sym e) ∙ get_or-append_seam s count [] 0
+  last_is : (s : List ℕ) → length s ≡ 31 → byte 31 (s ++ count ∷ []) ≡ count
+  last_is s e = ap (λ (k : ℕ). byte k (s ++ count ∷ [])) (sym e) ∙ get_or-append_seam s count [] 0
 
   tails_agree : (count ≤ 31 → take count held ≡ take count held') → held_from (held ++ count ∷ []) ≡ held_from (held' ++ count ∷ [])
   tails_agree same = go (leb count 31) refl
@@ -140,11 +143,11 @@ module _ (held held' : List ℕ) (count : ℕ) (long : length held ≡ 31) (long
       go : (b : Bool) → leb count 31 ≡ b → held_from (held ++ count ∷ []) ≡ held_from (held' ++ count ∷ [])
       go true e =
           let most = leb-true count 31 e in
-          rw (counted held long, counted held' long', take-append-le count held (count ∷ []) (omega arith), take-append-le count held' (count ∷ []) (omega arith))
+          rw (last_is held long, last_is held' long', take-append-le count held (count ∷ []) (omega arith), take-append-le count held' (count ∷ []) (omega arith))
           (ap kept (same most))
       go false e =
           let most = leb-false count 31 e in
-          rw (counted held long, counted held' long')
+          rw (last_is held long, last_is held' long')
           (held_too_long (take count (held ++ count ∷ [])) (omega (arith, length-take count (held ++ count ∷ []), length-append held (count ∷ [])))
           ∙ sym (held_too_long (take count (held' ++ count ∷ [])) (omega (arith, length-take count (held' ++ count ∷ []), length-append held' (count ∷ [])))))
 

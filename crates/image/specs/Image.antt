@@ -21,6 +21,7 @@ use Rattle.rules.specs.Changes.{made, drops}
 use Rattle.rules.specs.Packets.{inward}
 use Rattle.rules.specs.Bursts.{kept}
 use Rattle.rules.specs.Demands.Sizes.{Sized}
+use Rattle.image.specs.declared.Fragments.{Fragments}
 
 -- ---- read: at 0 the configuration bytes, at 16 the tag, at 20 L or the residue; at 24, 25 and 26 a mark each, set where it is not 0: configured, bulk
 -- out halted, bulk in halted; at 27 the phase, 0 awaiting, 1 busy, 2 status waiting, else stopped; at 28 its direction in bit 0 and its LUN in bit 1, its
@@ -68,16 +69,19 @@ decode image =
       halts = marks (is_marked (byte 25 image)) (is_marked (byte 26 image));
     }
 
--- what is held, by value: as many bytes as are counted
-abbrev pub held_in : List ℕ → List ℕ
-held_in image = take (byte 61 image) (drop 30 image)
-
--- where that is more than a packet's, the count itself is the byte too many
+-- as many bytes as are counted; where that is more than a packet's, the count itself is the byte too many
 abbrev pub held_of : List ℕ → List ℕ
-held_of image = kept (held_in image)
+held_of image = kept (take (byte 61 image) (drop 30 image))
 
 abbrev pub world_of : List ℕ → List ℕ → World
 world_of image memory = holding (held_of image) (world (decode image) (bytes_of image) memory)
+
+-- what is held, by value, and the bytes of it that count
+abbrev pub held_in : List ℕ → Fragments
+held_in image = record { bytes = drop 30 image }
+
+abbrev pub counted : Fragments → List ℕ
+counted f = take (byte 31 f.bytes) f.bytes
 
 -- ---- written: at power-on, by each change, and by a burst. What an earlier phase left where this one has nothing stays, and so do bytes that are dropped.
 

@@ -6,14 +6,13 @@ ghost use Rattle.rules.specs.Words.{long, byte};
 ghost use Rattle.rules.specs.Held.{starting, by_default};
 ghost use Rattle.rules.specs.Answers.{seen_of};
 ghost use Rattle.rules.specs.Packets.{signature_of};
-ghost use Rattle.image.specs.Image.{bytes_of, is_marked, is_odd, phase_from, page_code, page_from, dock_byte, dock_of, decode, world_of, held_in, powered, numbered, phased, marked, dropped, calm, put, added};
+ghost use Rattle.image.specs.Image.{bytes_of, is_marked, is_odd, phase_from, page_code, page_from, dock_byte, dock_of, decode, world_of, held_in, counted, powered, numbered, phased, marked, dropped, calm, put, added};
 
 use rules::addresses::StringIndex;
 use rules::fields::{FIRST_SETTING, FIRST_STRING};
 use rules::{
     Bridge, Change, CommandPacket, Direction, Dock, Drives, Halts, Lun, PageSize, Phase, Seen,
 };
-use std::marker::Model;
 
 pub const IMAGE: usize = 62;
 
@@ -53,24 +52,16 @@ const STOPPED: u8 = 3;
 // The count of what is more than a packet, which is too long by a byte or by more.
 const TOO_LONG: usize = 32;
 
-// What is held, by value, as it lies in the image: bytes, and behind them how many count. It shows as those that count; where these are more than a
-// packet has, the count itself is the byte too many.
-#[derive(Drop)]
+// What is held, by value, as it lies in the image: bytes, and behind them how many count.
+#[derive(Clone, Copy)]
 pub struct Fragments {
     bytes: [u8; TOO_LONG],
 }
 
-impl Model for Fragments {
-    ghost use Rattle.std.specs.Prelude.{List, ℕ, take, slice_index};
-
-    ghost Value = { List ℕ };
-
-    ghost view = { λ f. take (slice_index f.bytes 31) f.bytes };
-}
-
 impl Fragments {
+    // The bytes that count; where these are more than a packet has, the count itself is the byte too many.
     pub fn bytes(&self) -> &[u8]
-        ensures told { result.now ≡ self.now }
+        ensures told { result.now ≡ counted self.now }
         ensures points { result.ref_ptr ≡ self.entry.ref_ptr }
     {
         let count = self.bytes[COUNT - HELD] as usize;
