@@ -1,20 +1,20 @@
 -- What is held in an image: how a burst is added, that the image stays in step with the rules, and that nothing behind the count shows.
 use mathlib.Core.Path.{◌≡◌, refl, sym, ap, subst, ◌∙◌}
 use mathlib.Core.Bool.{Bool, true, false, cond}
-use mathlib.Core.List.{List, [], ◌∷◌, ◌++◌, append-nil, append_assoc}
-use Prim.Native.Nat.{ℕ, ◌+◌, ◌<◌, ◌≤◌}
+use mathlib.Core.List.{List, [], ◌∷◌, ◌++◌, append_assoc}
+use Prim.Native.Nat.{ℕ, zero, suc, ◌+◌, ◌<◌, ◌≤◌}
 use native.Mathlib.Omega.{arith}
 use lib.Dec.{leb, ltb}
 use lib.ListN.{length, set, take, drop, length-set, length-take, length-append, length-drop}
-use lib.Seq.{take_all, take-length, drop-length, take-append-le, get_or-append_seam, get_or-set_same, take-set-le, take_at, take-paste}
+use lib.Seq.{take_all, take-length, take-append-le, get_or-append_seam, get_or-set_same, take-set-le, take_at, take-paste}
 use borrow.Author.Tests.{leb-true, leb-false, ltb-true, ltb-false, lt-ltb, le-ltb}
 use Rattle.rules.specs.Words.{byte, over}
 use Rattle.rules.specs.Held.{holding}
 use Rattle.rules.specs.Bursts.{kept}
 use Rattle.rules.proofs.Bursts.{held_whole, held_too_long, held_behind}
-use Rattle.rules.proofs.Rows.{over-length, over-laid, over_pastes}
+use Rattle.rules.proofs.Rows.{over-length, over_all, over_pastes}
 use Rattle.image.proofs.Rows.{by_bytes, copied_back}
-use Rattle.image.specs.Image.{world_of, held_in, counted, added, BurstInStep, BehindTheCount}
+use Rattle.image.specs.Image.{world_of, held_of, added, BurstInStep, BehindTheCount}
 
 -- ---- how a burst is added
 
@@ -56,9 +56,18 @@ held_counted s h = go (leb (length s) 31) refl
         let more = leb-false (length s) 31 e in
         ap length (held_too_long s (omega arith)) ∙ omega arith
 
--- a row over another as long
-over_all : (row xs : List ℕ) → length xs ≡ length row → over row 0 xs ≡ xs
-over_all row xs e = over-laid row xs (omega arith) ∙ rw (e, drop-length row) (append-nil xs)
+take_again : (n : ℕ) (s : List ℕ) → take (length (take n s)) s ≡ take n s
+take_again zero s = refl
+take_again (suc n) [] = refl
+take_again (suc n) (x ∷ s) = ap (λ (l : List ℕ). x ∷ l) (take_again n s)
+
+-- what is held, by value, is so held
+pub held_by_value : (image : List ℕ) → length (drop 30 image) ≡ 32 → held_of image ≡ kept (take (length (held_of image)) (drop 30 image))
+held_by_value image h =
+    let n : ℕ = byte 61 image in
+    let s : List ℕ = take n (drop 30 image) in
+    ap kept (sym (take_again n (drop 30 image)))
+    ∙ ap (λ (k : ℕ). kept (take k (drop 30 image))) (sym (held_counted s (omega (arith, length-take n (drop 30 image)))))
 
 module _ (t burst : List ℕ) (long : length t ≡ 32) where
   tail_too_much : 31 < byte 31 t + length burst → held_from (set t 31 32) ≡ kept (held_from t ++ burst)
@@ -91,9 +100,6 @@ module _ (image : List ℕ) (h : length image ≡ 62) where
 
   pub count_in_tail : byte 61 image ≡ byte 31 (drop 30 image)
   count_in_tail = by_bytes 62 image h (λ i. byte 61 i ≡ byte 31 (drop 30 i)) refl
-
-  pub counted_held : counted (held_in image) ≡ take (byte 61 image) (drop 30 image)
-  counted_held = ap (λ (k : ℕ). take k (drop 30 image)) (sym count_in_tail)
 
   set_in_tail : (v : ℕ) → set image 61 v ≡ take 30 image ++ set (drop 30 image) 31 v
   set_in_tail v = by_bytes 62 image h (λ i. set i 61 v ≡ take 30 i ++ set (drop 30 i) 31 v) refl

@@ -76,12 +76,9 @@ held_of image = kept (take (byte 61 image) (drop 30 image))
 abbrev pub world_of : List ℕ → List ℕ → World
 world_of image memory = holding (held_of image) (world (decode image) (bytes_of image) memory)
 
--- what is held, by value, and the bytes of it that count
+-- what is held, by value
 abbrev pub held_in : List ℕ → Fragments
-held_in image = record { bytes = drop 30 image }
-
-abbrev pub counted : Fragments → List ℕ
-counted f = take (byte 31 f.bytes) f.bytes
+held_in image = record { bytes = drop 30 image; count = length (held_of image) }
 
 -- ---- written: at power-on, by each change, and by a burst. What an earlier phase left where this one has nothing stays, and so do bytes that are dropped.
 

@@ -1,12 +1,12 @@
 // The image of a bridge with its configuration bytes and what it holds of a packet in bursts: sixty-two bytes, read, and changed in place.
 #![tactic(auto)]
 
-ghost use Rattle.std.specs.Prelude.{◌≡◌, ◌+◌, ◌≤◌, [], cond, set, drop};
+ghost use Rattle.std.specs.Prelude.{◌≡◌, ◌+◌, ◌≤◌, [], cond, set, take, drop};
 ghost use Rattle.rules.specs.Words.{long, byte};
 ghost use Rattle.rules.specs.Held.{starting, by_default};
 ghost use Rattle.rules.specs.Answers.{seen_of};
 ghost use Rattle.rules.specs.Packets.{signature_of};
-ghost use Rattle.image.specs.Image.{bytes_of, is_marked, is_odd, phase_from, page_code, page_from, dock_byte, dock_of, decode, world_of, held_in, counted, powered, numbered, phased, marked, dropped, calm, put, added};
+ghost use Rattle.image.specs.Image.{bytes_of, is_marked, is_odd, phase_from, page_code, page_from, dock_byte, dock_of, decode, world_of, held_in, powered, numbered, phased, marked, dropped, calm, put, added};
 
 use rules::addresses::StringIndex;
 use rules::fields::{FIRST_SETTING, FIRST_STRING};
@@ -52,20 +52,20 @@ const STOPPED: u8 = 3;
 // The count of what is more than a packet, which is too long by a byte or by more.
 const TOO_LONG: usize = 32;
 
-// What is held, by value, as it lies in the image: bytes, and behind them how many count.
+// What is held, by value, with room for a byte more than a packet has, and how much of it counts.
 #[derive(Clone, Copy)]
 pub struct Fragments {
     bytes: [u8; TOO_LONG],
+    count: usize,
 }
 
 impl Fragments {
-    // The bytes that count; where these are more than a packet has, the count itself is the byte too many.
+    // The bytes that count.
     pub fn bytes(&self) -> &[u8]
-        ensures told { result.now ≡ counted self.now }
+        ensures told { result.now ≡ take self.now.count self.now.bytes }
         ensures points { result.ref_ptr ≡ self.entry.ref_ptr }
     {
-        let count = self.bytes[COUNT - HELD] as usize;
-        &self.bytes[..count.min(TOO_LONG)]
+        &self.bytes[..self.count.min(TOO_LONG)]
     }
 }
 
@@ -227,7 +227,8 @@ pub fn held(image: &[u8; IMAGE]) -> Fragments
     ensures { result ≡ held_in image.now }
 {
     let bytes = held_bytes(image);
-    Fragments { bytes }
+    let count = lent::part(&bytes, 0, image[COUNT] as usize).len();
+    Fragments { bytes, count }
 }
 
 // A burst is held behind what is held; where that is more than a packet, that it is too long. No more of it is looked at than makes it so. The count is
