@@ -3,7 +3,7 @@
 
 ghost use Rattle.std.specs.Prelude.{◌≡◌, ◌+◌, ◌≤◌, length, true, false, MatchResult};
 ghost use Rattle.lent.specs.Parts.{PartOf};
-ghost use Rattle.rules.specs.Numbered.{numbered};
+ghost use Rattle.rules.specs.Numbered.{by_number};
 ghost use Rattle.rules.specs.Descriptors.{number_of, place_of, head_of, length_at, answered};
 ghost use Rattle.descriptors.specs.Looking.{kind_number, looked};
 
@@ -84,7 +84,7 @@ pub fn look(
     memory: &[u8],
     value: u16,
 ) -> Result<Part, Refusal>
-    ensures { numbered result ≡ looked bus_powered first memory.now value }
+    ensures { by_number result ≡ looked bus_powered first memory.now value }
 {
     let [number, index] = value.to_be_bytes();
     let kind = Kind::asked(number, index)?;

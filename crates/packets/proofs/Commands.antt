@@ -16,7 +16,7 @@ use Rattle.rules.specs.declared.Direction.{Direction}
 use Rattle.rules.specs.declared.Drives.{Drives}
 use Rattle.rules.specs.declared.Lun.{Lun}
 use Rattle.rules.specs.declared.refusals.Refusal.{Refusal}
-use Rattle.rules.specs.Numbered.{refusal_number, numbered, checked}
+use Rattle.rules.specs.Numbered.{refusal_number, by_number, checked}
 use Rattle.rules.specs.Words.{long, first}
 use Rattle.rules.specs.Packets.{command_layout, command_of, block_of, valid, meaningful, direction_of, lun_of, recognises}
 use Rattle.rules.specs.Operations.{codes, operations_of}
@@ -46,17 +46,17 @@ block_length : (p : List ℕ) → length p ≡ 31 → length (block_of p) ≡ 16
 block_length p h = rw length-drop (omega arith)
 
 -- what is told by its number is done where that is 0, and else refused with it
-pub checked_ok : {A : Type 0} (x y : A) (n : ℕ) → numbered (Ok y) ≡ checked x n → (n ≡ 0) × (y ≡ x)
+pub checked_ok : {A : Type 0} (x y : A) (n : ℕ) → by_number (Ok y) ≡ checked x n → (n ≡ 0) × (y ≡ x)
 checked_ok x y n = go (eqb n 0) refl
   where
-    go : (t : Bool) → eqb n 0 ≡ t → numbered (Ok y) ≡ cond t (Ok x) (Err n) → (n ≡ 0) × (y ≡ x)
+    go : (t : Bool) → eqb n 0 ≡ t → by_number (Ok y) ≡ cond t (Ok x) (Err n) → (n ≡ 0) × (y ≡ x)
     go true z h = (eqb-true n 0 z, cc)
     go false z h = absurd cc
 
-pub checked_err : {A : Type 0} (x : A) (n : ℕ) (e : Refusal) → numbered {A = A} (Err e) ≡ checked x n → refusal_number e ≡ n
+pub checked_err : {A : Type 0} (x : A) (n : ℕ) (e : Refusal) → by_number {A = A} (Err e) ≡ checked x n → refusal_number e ≡ n
 checked_err {A} x n e = go (eqb n 0)
   where
-    go : (t : Bool) → numbered {A = A} (Err e) ≡ cond t (Ok x) (Err n) → refusal_number e ≡ n
+    go : (t : Bool) → by_number {A = A} (Err e) ≡ cond t (Ok x) (Err n) → refusal_number e ≡ n
     go true h = absurd cc
     go false h = cc
 
@@ -81,7 +81,7 @@ module _ (drives : Drives) (p : List ℕ) where
     pub meant : meaningful drives (command_of p) ≡ true
     pub same : x ≡ right
 
-  pub undamaged : (x : Understood) → numbered (Ok x) ≡ checked right (first (damage_checks drives p)) → Undamaged x
+  pub undamaged : (x : Understood) → by_number (Ok x) ≡ checked right (first (damage_checks drives p)) → Undamaged x
   undamaged x h =
       let k = checked_ok _ _ _ h in
       let passes = passed (damage_checks drives p) refl k.0 in
@@ -95,7 +95,7 @@ module _ (drives : Drives) (p : List ℕ) where
     left_checks = rw (a.holds, a.configured, a.awaits, a.runs)
 
     -- one that is damaged stops the bridge
-    pub damaged : (e : Refusal) → numbered {A = Understood} (Err e) ≡ checked right (first (damage_checks drives p))
+    pub damaged : (e : Refusal) → by_number {A = Understood} (Err e) ≡ checked right (first (damage_checks drives p))
         → ToldOf b signature (Packet p) room (refusal_number e) 0 Stops room
     damaged e h = rw (checked_err _ _ e h) (go (valid p) refl (meaningful drives (command_of p)) refl (λ z. not_done e (checked_err _ _ e h ∙ z)))
       where

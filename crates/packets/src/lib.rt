@@ -4,7 +4,7 @@
 ghost use Rattle.std.specs.Prelude.{◌≡◌, false, ltb, length};
 ghost use Rattle.packets.specs.Awaited.{Awaits, damage_checks, meaning_of, taken_as};
 ghost use Rattle.outcomes.specs.Outcomes.{AnswersOf};
-ghost use Rattle.rules.specs.Numbered.{numbered, checked};
+ghost use Rattle.rules.specs.Numbered.{by_number, checked};
 ghost use Rattle.rules.specs.Words.{first};
 ghost use Rattle.rules.specs.Held.{drive_count};
 ghost use Rattle.rules.specs.Answers.{unawaited_checks};
@@ -72,7 +72,7 @@ fn meaning_of(drives: Drives, c: CommandPacket) -> Option<Lun>
 // The command of a packet that is not damaged, and its drive.
 #[tactic(auto, using(crate::proofs::Commands::thirty_one))]
 fn undamaged(drives: Drives, packet: &[u8]) -> Result<(CommandPacket, Lun), Refusal>
-    ensures { numbered result ≡ checked (command_of packet.now, lun_of (command_of packet.now)) (first (damage_checks drives packet.now)) }
+    ensures { by_number result ≡ checked (command_of packet.now, lun_of (command_of packet.now)) (first (damage_checks drives packet.now)) }
 {
     if !is_valid(packet) {
         return Err(Refusal::NotValid);
@@ -154,7 +154,7 @@ pub fn awaited(drives: Drives, signature: u8, packet: &[u8], operations: &mut [u
 
 // A packet that is not awaited is refused, whatever it is.
 pub fn unawaited(b: Bridge) -> Result<(), Refusal>
-    ensures { numbered result ≡ checked tt (first (unawaited_checks b)) }
+    ensures { by_number result ≡ checked tt (first (unawaited_checks b)) }
 {
     if !b.configured {
         return Err(Refusal::Unconfigured);

@@ -3,7 +3,7 @@
 
 ghost use Rattle.std.specs.Prelude.{◌≡◌, true, false, cond, not, ◌&&◌, ◌||◌, ◌∷◌, ◌++◌, ◌+◌, MatchResult, eqb, leb, ltb, length};
 ghost use Rattle.requests.specs.Judgements.{place_number, row_names, judged, judged_by, found_by, described_checks};
-ghost use Rattle.rules.specs.Numbered.{numbered, checked};
+ghost use Rattle.rules.specs.Numbered.{by_number, checked};
 ghost use Rattle.rules.specs.Words.{first};
 ghost use Rattle.rules.specs.Requests.{Unknown, Known, is_a, setup_of, request_of, needs_configuration, in_bytes, in_memory, one_page};
 ghost use Rattle.rules.specs.Held.{size_of, fitted, page_bytes, bulk_out, bulk_in};
@@ -139,7 +139,7 @@ impl<'a> Asked<'a> {
     // Checks 2 and 3: the host sends wLength bytes where the type is below 0x80, else it is sent them. Each way has its own test for 2: with one for both
     // the compiler joins the rows of the table before 3, and each request took five instructions more.
     fn check_data(&self) -> Result<(), Refusal>
-        ensures { let a = self.now in numbered result ≡ checked tt (first (data_checks false a.setup a.host a.room)) }
+        ensures { let a = self.now in by_number result ≡ checked tt (first (data_checks false a.setup a.host a.room)) }
     {
         let n = self.setup.length as usize;
         if self.setup.kind < 0x80 {
@@ -159,7 +159,7 @@ impl<'a> Asked<'a> {
 
     // A request of the table, with its place and address good where it has them.
     fn granted(&self, request: Request) -> Result<Granted, Refusal>
-        ensures { let a = self.now in numbered result ≡ judged_by request a.setup (first (data_checks false a.setup a.host a.room)) }
+        ensures { let a = self.now in by_number result ≡ judged_by request a.setup (first (data_checks false a.setup a.host a.room)) }
     {
         self.check_data()?;
         Ok(Granted::Request(request, self.setup))
@@ -169,7 +169,7 @@ impl<'a> Asked<'a> {
     #[tactic(auto, unfolding(rules::specs::Requests::address))]
     fn placed(&self, request: Request) -> Result<Granted, Refusal>
         ensures { let a = self.now in let s = a.setup in let writes = is_a Request.LoadConfigData (Known request) in
-            numbered result ≡ judged_by request s (first (place_checks (page_bytes a.seen.page) false true writes (size_of a.memory.now) s.value s.index s.length ++ data_checks false s a.host a.room)) }
+            by_number result ≡ judged_by request s (first (place_checks (page_bytes a.seen.page) false true writes (size_of a.memory.now) s.value s.index s.length ++ data_checks false s a.host a.room)) }
     {
         let writes = matches!(request, Request::LoadConfigData);
         let start = self.setup.index;
@@ -202,7 +202,7 @@ impl<'a> Asked<'a> {
 
     // Get Descriptor: checks 7, 18, 19, 18, 19 and 2. What it tells needs no room, so that 3 is not given.
     fn described(&self) -> Result<Granted, Refusal>
-        ensures { let a = self.now in numbered result ≡ found_by a.seen a.memory.now a.setup (first (described_checks a.seen a.memory.now a.setup a.host)) }
+        ensures { let a = self.now in by_number result ≡ found_by a.seen a.memory.now a.setup (first (described_checks a.seen a.memory.now a.setup a.host)) }
     {
         let fitted = self.fitted();
         if fitted.is_empty() {
@@ -222,7 +222,7 @@ impl<'a> Asked<'a> {
     }
 
     fn judged(&self) -> Result<Granted, Refusal>
-        ensures { let a = self.now in numbered result ≡ judged a.seen a.memory.now (first (named_checks a.seen a.memory.now a.setup (request_of a.setup) a.host a.room)) a.setup }
+        ensures { let a = self.now in by_number result ≡ judged a.seen a.memory.now (first (named_checks a.seen a.memory.now a.setup (request_of a.setup) a.host a.room)) a.setup }
     {
         match Row::try_from(self.setup)? {
             Row::Request(request @ (Request::LoadConfigData | Request::ReadConfigData)) =>
@@ -242,7 +242,7 @@ pub fn judge(
     host: usize,
     room: usize,
 ) -> Result<Granted, Refusal>
-    ensures { numbered result ≡ judged seen memory.now (request_answer seen memory.now setup.now host room) (setup_of setup.now) }
+    ensures { by_number result ≡ judged seen memory.now (request_answer seen memory.now setup.now host room) (setup_of setup.now) }
 {
     let Some(setup) = setup.as_array() else {
         return Err(Refusal::SetupLength);

@@ -3,7 +3,7 @@ use Rattle.std.specs.Prelude.{◌≡◌, ℕ, cond, eqb, Option, Some, None, Res
 use Rattle.std.proofs.Common.{rules, refl, sym, ap, ◌∙◌}
 use Rattle.rules.specs.declared.refusals.Refusal.{Refusal}
 use Rattle.rules.specs.declared.refusals.Refusal.TheVariants.{SetupLength, HostData, ReplyRoom, Unconfigured, NotInTable, NoPlace, NoneFitted, Outside, NotAtEight, CrossesPage, Halted, NotValid, NotMeaningful, OperationRoom, WrongPhase, Malformed, NoDescriptor, PastMemory, CutRecord, UnknownKind, PayloadLength, NoRecord, ShortImage, ChangeRoom, RecordRoom}
-use Rattle.rules.specs.Numbered.{refusal_number, numbered, answer_of, count_of}
+use Rattle.rules.specs.Numbered.{refusal_number, by_number, answer_of, count_of}
 
 -- the refusal of a number
 abbrev refusal_of : ℕ → Option Refusal
@@ -75,7 +75,7 @@ not_done e none = some_none (sym (back e) ∙ ap refusal_of none)
     some_none : Some e ≡ None → ⊥
     some_none p = search rules
 
-pub numbered_tells : {A : Type 0} (r s : Result A Refusal) → numbered r ≡ numbered s → r ≡ s
+pub numbered_tells : {A : Type 0} (r s : Result A Refusal) → by_number r ≡ by_number s → r ≡ s
 numbered_tells (Ok x) (Ok y) same = search rules
 numbered_tells (Ok x) (Err e) same = search rules
 numbered_tells (Err d) (Ok y) same = search rules

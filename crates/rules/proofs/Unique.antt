@@ -11,7 +11,7 @@ use Rattle.rules.proofs.U16FromPageSize.from as U16FromPageSize
 use Rattle.rules.proofs.DrivesFromU32.from as DrivesFromU32
 use Rattle.rules.proofs.Drives.max_lun as DrivesMaxLun
 use Rattle.rules.proofs.refusals.U8FromRefusal.from as U8FromRefusal
-use Rattle.rules.proofs.refusals.returned as Returned
+use Rattle.rules.proofs.refusals.in_one_number as InOneNumber
 use Rattle.rules.proofs.addresses.AddressFromStringIndex.from as AddressFromStringIndex
 use Rattle.rules.proofs.addresses.U16FromAddress.from as U16FromAddress
 
@@ -55,5 +55,5 @@ Drives::max_lun κs a r r' left left' p q = (only p q, refl)
 pub «U8FromRefusal::from» : OneOutcome U8FromRefusal.Kinds.ps U8FromRefusal.Kinds.r U8FromRefusal.Reads.Post
 «U8FromRefusal::from» κs a r r' left left' p q = (only p q, refl)
 
-pub returned : OneOutcome Returned.Kinds.ps Returned.Kinds.r Returned.Reads.Post
-returned κs a r r' left left' p q = (only p q, refl)
+pub in_one_number : OneOutcome InOneNumber.Kinds.ps InOneNumber.Kinds.r InOneNumber.Reads.Post
+in_one_number κs a r r' left left' p q = (only p q, refl)

@@ -32,9 +32,9 @@ refusal_number ChangeRoom = 25
 refusal_number RecordRoom = 29
 
 -- a result with the number of its refusal
-abbrev pub numbered : {A : Type 0} → Result A Refusal → Result A ℕ
-numbered (Ok x) = Ok x
-numbered (Err refusal) = Err (refusal_number refusal)
+abbrev pub by_number : {A : Type 0} → Result A Refusal → Result A ℕ
+by_number (Ok x) = Ok x
+by_number (Err refusal) = Err (refusal_number refusal)
 
 -- what checks come to whose first number is n: a value where it is 0, and else a refusal
 abbrev pub checked : {A : Type 0} → A → ℕ → Result A ℕ

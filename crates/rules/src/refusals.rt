@@ -40,7 +40,7 @@ impl From<Refusal> for u8 {
 }
 
 // In one number, for C: the answer, and above it how much was handed out.
-pub fn returned(answer: Result<u16, Refusal>) -> u32
+pub fn in_one_number(answer: Result<u16, Refusal>) -> u32
     ensures { result ≡ answer_of answer + 256 * count_of answer }
 {
     match answer {

@@ -8,7 +8,7 @@ ghost use Rattle.settings.specs.Store.{settings_from, read_by, newest};
 ghost use Rattle.service.specs.Calls.{readout, showing, result as laying, lays, mending, mends_for};
 
 use rules::PageSize;
-use rules::refusals::returned;
+use rules::refusals::in_one_number;
 use settings::{RECORD, Settings};
 
 #[unsafe(no_mangle)]
@@ -33,7 +33,7 @@ pub extern "C" fn service_write(bytes: &[u8; 14], page: u32, room: &mut [u8]) ->
         bytes: *bytes,
         page: PageSize::from(page),
     };
-    returned(settings::write(settings, room).map(|_| RECORD as u16))
+    in_one_number(settings::write(settings, room).map(|_| RECORD as u16))
 }
 
 #[unsafe(no_mangle)]
@@ -41,5 +41,5 @@ pub extern "C" fn service_write(bytes: &[u8; 14], page: u32, room: &mut [u8]) ->
 pub extern "C" fn service_mend(image: &mut [u8], list: &mut [u32]) -> u32
     ensures { mending result image.new list.new ≡ mends_for image.old list.old }
 {
-    returned(mend::mend(image, list).map(|changes| changes as u16))
+    in_one_number(mend::mend(image, list).map(|changes| changes as u16))
 }

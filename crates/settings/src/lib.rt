@@ -3,7 +3,7 @@
 
 ghost use Rattle.std.specs.Prelude.{◌≡◌, ◌+◌, ◌*◌, ◌/◌, false, eqb, not, [], ◌∷◌, drop, length, MatchResult};
 ghost use Rattle.rules.specs.Held.{page_bytes, page_of};
-ghost use Rattle.rules.specs.Numbered.{numbered, checked, answer_of};
+ghost use Rattle.rules.specs.Numbered.{by_number, checked, answer_of};
 ghost use Rattle.rules.specs.Words.{◌if◌, first};
 ghost use Rattle.rules.specs.declared.refusals.Refusal.TheVariants.{UnknownKind};
 ghost use Rattle.settings.specs.Store.{length_of, kind_number, length_for, knows, settings_of, hidden, reading, record_read, read_by, newest, written, wrote, written_in};
@@ -81,7 +81,7 @@ impl From<PageSize> for PageByte {
 
 // The settings of a record: check 22.
 fn settings_in(kind: Kind, payload: &[u8]) -> Result<Settings, Refusal>
-    ensures { numbered result ≡ checked (settings_of (kind_number kind) payload.now) (first (22 if not (eqb (length payload.now) (length_for (kind_number kind))) ∷ [])) }
+    ensures { by_number result ≡ checked (settings_of (kind_number kind) payload.now) (first (22 if not (eqb (length payload.now) (length_for (kind_number kind))) ∷ [])) }
 {
     let (&bytes, behind) = payload.split_first_chunk().ok_or(Refusal::PayloadLength)?;
     let page = match (kind, behind) {

@@ -13,7 +13,7 @@ use Rattle.rules.specs.declared.Setup.{Setup}
 use Rattle.rules.specs.declared.Stands.TheVariants.{InMemory}
 use Rattle.rules.specs.declared.addresses.Address.{Address}
 use Rattle.rules.specs.declared.refusals.Refusal.{Refusal}
-use Rattle.rules.specs.Numbered.{refusal_number, numbered, checked}
+use Rattle.rules.specs.Numbered.{refusal_number, by_number, checked}
 use Rattle.rules.specs.Words.{first}
 use Rattle.rules.specs.Held.{world}
 use Rattle.rules.specs.Packets.{signature_of}
@@ -76,7 +76,7 @@ module _ (image memory : List ℕ) (setup host room : List ℕ) where
 -- ---- a packet, by what the checks of the bridge alone say, of the state as it was loaded
 
 module _ (image : List ℕ) {b : Bridge} (loaded : b ≡ decode image) where
-  pub unawaited_told : (e : Refusal) → numbered {A = Unit {0}} (Err e) ≡ checked (tt {0}) (first (unawaited_checks b)) → (p room : List ℕ) → {returned : ℕ} {image' : List ℕ}
+  pub unawaited_told : (e : Refusal) → by_number {A = Unit {0}} (Err e) ≡ checked (tt {0}) (first (unawaited_checks b)) → (p room : List ℕ) → {returned : ℕ} {image' : List ℕ}
       → LeftInImage (outcome (Err e) Drops) image returned image' → CallTold image (Packet p) room returned image' room
   unawaited_told e says p room r memory =
       told image memory (Packet p) room (outcome (Err e) Nothing) refl
@@ -84,7 +84,7 @@ module _ (image : List ℕ) {b : Bridge} (loaded : b ≡ decode image) where
       (bytes_of image) memory refl)
       r
 
-  pub awaits_told : numbered {A = Unit {0}} (Ok (tt {0})) ≡ checked (tt {0}) (first (unawaited_checks b)) → Awaits (decode image).dock.drives (decode image)
+  pub awaits_told : by_number {A = Unit {0}} (Ok (tt {0})) ≡ checked (tt {0}) (first (unawaited_checks b)) → Awaits (decode image).dock.drives (decode image)
   awaits_told says = awaits (decode image) (rw loaded at (checked_ok tt tt (first (unawaited_checks b)) says).0)
 
 -- ---- a packet in bursts

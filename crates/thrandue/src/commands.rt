@@ -10,7 +10,7 @@ use crate::leave;
 use bridge::Outcome;
 use image::IMAGE;
 use rules::Change;
-use rules::refusals::{Refusal, returned};
+use rules::refusals::{Refusal, in_one_number};
 
 // A packet that is not awaited is not looked at; what is held it drops, whole or at its end mark.
 fn refuse(image: &mut [u8; IMAGE], refusal: Refusal) -> u32
@@ -58,7 +58,7 @@ pub extern "C" fn thrandue_burst(image: &mut [u8; IMAGE], burst: &[u8]) -> u32
     ensures { CallTold image.old (λ n. Burst burst.now) [] result image.new [] }
 {
     image::hold(image, burst);
-    returned(Ok(0))
+    in_one_number(Ok(0))
 }
 
 #[unsafe(no_mangle)]

@@ -18,7 +18,7 @@ use bridge::Outcome;
 use descriptors::Part;
 use image::IMAGE;
 use requests::Granted;
-use rules::refusals::{Refusal, returned};
+use rules::refusals::{Refusal, in_one_number};
 use rules::{Bridge, Dock, Drives, PageSize, Phase, Request, Setup};
 use settings::Settings;
 
@@ -30,7 +30,7 @@ fn leave(image: &mut [u8; IMAGE], o: Outcome) -> u32
     ensures { LeftInImage o image.old result image.new }
 {
     image::make(image, o.change);
-    returned(o.answer)
+    in_one_number(o.answer)
 }
 
 // What a request for a descriptor returns that is found.
@@ -77,7 +77,7 @@ pub extern "C" fn thrandue_power_on(
         drives: Drives::from(drives),
     };
     image::power_on(image, dock);
-    returned(Ok(0))
+    in_one_number(Ok(0))
 }
 
 // .. with the settings of a store; one that is refused leaves the defaults.
@@ -98,7 +98,7 @@ pub extern "C" fn thrandue_power_on_with_store(
         drives: Drives::from(drives),
     };
     image::power_on_with(image, dock, &read.unwrap_or_default().bytes);
-    returned(read.map(|_| 0))
+    in_one_number(read.map(|_| 0))
 }
 
 #[unsafe(no_mangle)]
@@ -125,7 +125,7 @@ pub extern "C" fn thrandue_control(
             leave(image, o) as u64
         }
         Ok(Granted::Descriptor(part)) => found(part),
-        Err(refusal) => returned(Err(refusal)) as u64,
+        Err(refusal) => in_one_number(Err(refusal)) as u64,
     }
 }
 
