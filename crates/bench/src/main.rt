@@ -9,14 +9,14 @@ use std::io::{Read, Write};
 
 // The input that was read, of which the part from `start` to `end` is still to be taken.
 #[derive(Drop)]
-struct Block {
+struct Input {
     read: [u8; 65536],
     start: usize,
     end: usize,
     ghost inside: { (start ≤ end) × (end ≤ 65536) },
 }
 
-impl Block {
+impl Input {
     fn rest(&self) -> &[u8]
         ensures { length result.now ≡ self.now.end - self.now.start }
     {
@@ -50,7 +50,7 @@ fn main(rt: HostRuntime) -> io::Result<()> {
     let mut bytes = rules::power_on_bytes();
     let mut memory = [0xFF; 2048];
     let mut output = [0; 65536];
-    let mut block = Block {
+    let mut input = Input {
         read: [0; 65536],
         start: 0,
         end: 0,
@@ -61,14 +61,14 @@ fn main(rt: HostRuntime) -> io::Result<()> {
         let ran = records::run(
             bridge,
             &mut bytes,
-            block.rest(),
+            input.rest(),
             last,
             &mut memory,
             &mut output,
         );
         rt.stdout().write_all(&output[..ran.written])?;
         bridge = ran.bridge;
-        block.take(ran.used);
+        input.take(ran.used);
         if ran.torn {
             break;
         }
@@ -76,7 +76,7 @@ fn main(rt: HostRuntime) -> io::Result<()> {
             if last {
                 break;
             }
-            last = block.refill(&rt)? == 0;
+            last = input.refill(&rt)? == 0;
         }
     }
     Ok(())

@@ -26,8 +26,8 @@ pub struct ControlOutcome {
     pub stands: Stands,
 }
 
-// The host's bytes stand at their addresses, of the memory or of the configuration. Each has its own call: a choice of the two that are lent for
-// writing is not proved yet.
+// The host's bytes stand at their addresses, of the memory or of the configuration. A call for each: tried as a choice of the two slices, which are lent
+// for writing, and the proof did not close.
 fn load(s: Setup, host: &[u8], bytes: &mut [u8], memory: &mut [u8])
     ensures { (bytes.new ≡ bytes_after (Known Request.LoadConfigData) s host.now bytes.old) × (memory.new ≡ memory_after (Known Request.LoadConfigData) s host.now memory.old) }
 {
@@ -67,8 +67,8 @@ fn replied(bytes: &[u8], reply: &mut [u8]) -> Outcome
     done(bytes.len() as u16, Change::Nothing)
 }
 
-// A request that is to be done and that no check refuses. As far as the rooms go: of one that is granted they hold it all. They are lent one by one: a
-// struct of them would be made for this call alone, and no plainer.
+// A request that is to be done and that no check refuses. As far as the rooms go: of one that is granted they hold it all. They are lent one by one,
+// as C lends them.
 #[tactic(auto, unfolding(rules::specs::Words::over))]
 pub fn serve(
     r: Request,
@@ -83,7 +83,7 @@ pub fn serve(
 {
     match r {
         Request::SetConfiguration => done(0, Change::Sets(s.value == 2)),
-        Request::GetConfiguration => replied(&[if b.configured { 2 } else { 0 }], reply),
+        Request::GetConfiguration => replied(&[b.configuration()], reply),
         Request::ClearFeature => done(0, recovery::clear_feature(s.index, b)),
         Request::GetStatus => replied(&[halt_of(s.index, b), 0], reply),
         Request::GetMaxLun => replied(&[b.dock.drives.max_lun()], reply),

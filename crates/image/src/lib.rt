@@ -1,4 +1,5 @@
-// The image of a bridge with its configuration bytes and what it holds of a packet in bursts: sixty-two bytes, read, and changed in place.
+// The image of a bridge with its configuration bytes and what it holds of a packet in bursts: sixty-two bytes, read, and changed in place. They are C's, who
+// lends them as an array: so functions, and no methods of a struct.
 #![tactic(auto)]
 
 ghost use Rattle.std.specs.Prelude.{◌≡◌, ◌+◌, ◌≤◌, [], cond, set, take, drop};
@@ -40,7 +41,7 @@ const HELD: usize = 30;
 
 const COUNT: usize = 61;
 
-// The C interface fixes the phase's byte, where every other is a stop: numbers, and no enum.
+// Numbers and no enum: of an image every byte stands for a phase, by `phase_from` of the specs, and every one but these for a stop.
 const AWAITING: u8 = 0;
 
 const BUSY: u8 = 1;
@@ -69,7 +70,7 @@ impl Fragments {
     }
 }
 
-// Neither type is this crate's, so the code of C's image can be no From of either.
+// The image's own code of a page size, read and written once: as a type with two Froms it would be no plainer.
 fn page_code(page: PageSize) -> u8
     ensures { result ≡ page_code page }
 {
@@ -99,7 +100,7 @@ fn chosen<T: Copy>(bits: u8, zero: T, one: T) -> T
     if bits % 2 == 1 { one } else { zero }
 }
 
-// What is fixed at power-on, as a byte: the page size below, above it whether the dock is bus powered, and the highest LUN.
+// What is fixed at power-on, as one byte of the image, by `dock_byte` of the specs: the page size below, above it whether the dock is bus powered, and the highest LUN.
 fn dock_byte(dock: Dock) -> u8
     ensures { result ≡ dock_byte dock }
 {
@@ -121,6 +122,7 @@ pub fn power_on_with(image: &mut [u8; IMAGE], dock: Dock, settings: &[u8; 14])
     ensures { image.new ≡ powered (starting dock settings.now) }
 {
     power_on(image, dock);
+    // By `lent::copy`, whose contract has the rules' own `over`.
     lent::copy(image, FIRST_SETTING, settings);
 }
 
@@ -186,7 +188,7 @@ pub fn drives_of(image: &[u8; IMAGE]) -> Drives
     dock_of(image).drives
 }
 
-// What a control request is judged by.
+// What a control request is judged by, read from three bytes: a bridge by value, as `control` has it, would be made of them all.
 pub fn seen(image: &[u8; IMAGE]) -> Seen
     ensures { result ≡ seen_of (world_of image.now []) }
 {
@@ -263,6 +265,7 @@ fn put_phase(image: &mut [u8; IMAGE], kind: u8, detail: u8)
     image[DETAIL] = detail;
 }
 
+// A mark is the image's byte, as `marked` of the specs has it.
 fn put_halt(image: &mut [u8; IMAGE], direction: Direction, mark: u8)
     ensures { image.new ≡ marked direction mark image.old }
 {

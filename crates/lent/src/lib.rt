@@ -5,6 +5,7 @@ ghost use Rattle.std.specs.Prelude.{◌≡◌, ◌+◌, ◌*◌, replicate};
 ghost use Rattle.lent.specs.Parts.{PartOf};
 ghost use Rattle.rules.specs.Words.{bytes4, over};
 
+// This and the next two only call the library: their edits and their rows in PROMISES hold them.
 pub fn word(a: u8, b: u8) -> u16
     ensures { result ≡ a + 256 * b }
 {

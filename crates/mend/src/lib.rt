@@ -69,18 +69,18 @@ fn count(image: &[u8]) -> usize
 
 // A change of an image: an address, the byte that stood there, and the new one.
 #[derive(Clone, Copy)]
-struct Change {
+struct Entry {
     address: u8,
     old: u8,
     new: u8,
 }
 
 // As C lends the list, a change is one number.
-impl From<Change> for u32 {
-    fn from(change: Change) -> u32
-        ensures { result ≡ entry (changed change.address change.old change.new) }
+impl From<Entry> for u32 {
+    fn from(e: Entry) -> u32
+        ensures { result ≡ entry (changed e.address e.old e.new) }
     {
-        u32::from_be_bytes([0, change.address, change.old, change.new])
+        u32::from_be_bytes([0, e.address, e.old, e.new])
     }
 }
 
@@ -96,7 +96,7 @@ fn set(image: &mut [u8], list: &mut [u32]) -> usize
         let new = wanted(image, at, old);
         if new != old {
             let address = at as u8;
-            list[n] = u32::from(Change { address, old, new });
+            list[n] = u32::from(Entry { address, old, new });
             image[at] = new;
             n += 1;
         }

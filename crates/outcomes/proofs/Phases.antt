@@ -5,13 +5,7 @@ use Rattle.rules.specs.declared.Direction.{Direction}
 use Rattle.rules.specs.declared.Lun.{Lun}
 use Rattle.rules.specs.declared.Phase.{Phase}
 use Rattle.rules.specs.declared.Phase.TheVariants.{Awaiting, Busy, StatusWaiting, Stopped}
-use Rattle.rules.specs.Held.{is_awaiting, is_busy, is_status_waiting}
-
-pub not_awaiting : (p : Phase) → (p ≡ Awaiting → ⊥) → is_awaiting p ≡ false
-not_awaiting Awaiting other = absurd (other refl)
-not_awaiting (Busy direction lun tag l) other = refl
-not_awaiting (StatusWaiting tag residue status) other = refl
-not_awaiting (Stopped reset) other = refl
+use Rattle.rules.specs.Held.{is_busy, is_status_waiting}
 
 pub not_busy : (p : Phase) → ((direction : Direction) (lun : Lun) (tag l : ℕ) → p ≡ Busy direction lun tag l → ⊥) → is_busy p ≡ false
 not_busy Awaiting other = refl

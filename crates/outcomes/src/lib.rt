@@ -73,6 +73,7 @@ fn halt(halts: bool, direction: Direction, b: Bridge) -> Bridge
     }
 }
 
+// Apart from `halt`, which keeps a halt that stands, as the rules have `clearing` and `halting`.
 fn clear(direction: Direction, b: Bridge) -> Bridge
     ensures { result ≡ clearing direction b }
 {

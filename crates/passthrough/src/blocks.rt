@@ -44,8 +44,8 @@ fn bit(byte: u8, k: u8) -> u8
     (byte >> k) % 2
 }
 
-// The sixteen bytes, with what their packet says beside them: the length L, the direction and the drive. Action and selection are found once: what is
-// stored in the row cannot change them.
+// The sixteen bytes, with what their packet says beside them: the length L, the direction and the drive. Action and selection are read once: the
+// compiler does not know that the row lies apart from the block, and tried without these fields it reads them again behind each store.
 #[derive(Clone, Copy)]
 pub(crate) struct Block<'a> {
     bytes: &'a [u8; 16],

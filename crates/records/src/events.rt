@@ -1,5 +1,5 @@
 // The bench's events: each record goes through the bridge, and what that answers is printed.
-ghost use Rattle.std.specs.Prelude.{◌≡◌, ◌≤◌, length};
+ghost use Rattle.std.specs.Prelude.{◌≡◌, length};
 
 use crate::lines::Printer;
 use crate::reading::{Head, Kind, Record};
@@ -28,7 +28,7 @@ pub(crate) struct Bench<'a> {
     operations: [u16; 11],
 }
 
-// What an event hands out: a reply, which stands in its room or in the memory, or operations, in theirs.
+// What an event hands out: a reply, which stands in its room or in the memory, or operations, in theirs. No Option: a None would say that nothing is.
 #[derive(Clone, Copy)]
 enum Handed {
     Reply(Stands),

@@ -5,7 +5,7 @@ ghost use Rattle.records.specs.Lines.{digit as digitOf, number, two, hex_byte, h
 
 use rules::refusals::Refusal;
 
-// The lent output, and the place in it behind all that was put.
+// The lent output, and the place in it behind all that was put. Its contracts each ask for room of another length.
 #[derive(Drop)]
 pub(crate) struct Printer<'a> {
     output: &'a mut [u8],

@@ -6,8 +6,7 @@ use Rattle.rules.specs.declared.Setup.{Setup}
 use Rattle.rules.specs.Words.{Check, ◌if◌}
 use Rattle.rules.specs.Held.{size_of, fitted}
 use Rattle.rules.specs.Numbered.{checked}
-use Rattle.rules.specs.Descriptors.{place_in, descriptor_checks}
-use Rattle.rules.specs.Descriptors.{told}
+use Rattle.rules.specs.Descriptors.{place_in, descriptor_checks, told}
 use Rattle.rules.specs.Requests.{Named, Unknown, Known, Describes, request_of}
 use Rattle.requests.specs.declared.Place.{Place}
 use Rattle.requests.specs.declared.Place.TheVariants.{ConfigurationBytes, Memory}

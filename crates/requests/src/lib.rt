@@ -1,12 +1,12 @@
 // Control requests, judged: the fields of a setup, the request that they make, and what the checks grant or refuse.
 #![tactic(auto)]
 
-ghost use Rattle.std.specs.Prelude.{◌≡◌, true, false, cond, not, ◌&&◌, ◌||◌, ◌∷◌, ◌++◌, ◌+◌, MatchResult, eqb, leb, ltb, length};
+ghost use Rattle.std.specs.Prelude.{◌≡◌, true, false, not, ◌&&◌, ◌||◌, ◌++◌, ◌+◌, MatchResult, leb, ltb, length};
 ghost use Rattle.requests.specs.Judgements.{place_number, row_names, judged, judged_by, found_by, described_checks};
 ghost use Rattle.rules.specs.Numbered.{by_number, checked};
 ghost use Rattle.rules.specs.Words.{first};
 ghost use Rattle.rules.specs.Requests.{Unknown, Known, is_a, setup_of, request_of, needs_configuration, in_bytes, in_memory, one_page};
-ghost use Rattle.rules.specs.Held.{size_of, fitted, page_bytes, bulk_out, bulk_in};
+ghost use Rattle.rules.specs.Held.{size_of, fitted, page_bytes};
 ghost use Rattle.rules.specs.Answers.{place_checks, data_checks, named_checks, request_answer};
 
 use descriptors::Part;
@@ -86,7 +86,7 @@ fn crosses_page(page: PageSize, start: u16, n: u16) -> bool
     start as u32 % size + n as u32 > size
 }
 
-// What a row of the table names.
+// What a row of the table names. No Option: a None would say that it names nothing.
 #[derive(Clone, Copy)]
 enum Row {
     Request(Request),

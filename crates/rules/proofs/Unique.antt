@@ -1,6 +1,7 @@
 -- No second outcome: each public function's own contract has one.
 use mathlib.Core.Path.{◌≡◌, refl, sym, ◌∙◌}
 use Rattle.rules.specs.OneOutcome.{OneOutcome}
+use Rattle.rules.proofs.Bridge.configuration as BridgeConfiguration
 use Rattle.rules.proofs.Bridge.power_on as BridgePowerOn
 use Rattle.rules.proofs.power_on_bytes as PowerOnBytes
 use Rattle.rules.proofs.U8FromDirection.from as U8FromDirection
@@ -18,6 +19,9 @@ use Rattle.rules.proofs.addresses.U16FromAddress.from as U16FromAddress
 -- a promise that is one equation leaves no second outcome
 pub only : {A : Type 0} {x y z : A} → x ≡ z → y ≡ z → x ≡ y
 only p q = p ∙ sym q
+
+pub Bridge::configuration : OneOutcome BridgeConfiguration.Kinds.ps BridgeConfiguration.Kinds.r BridgeConfiguration.Reads.Post
+Bridge::configuration κs a r r' left left' p q = (only p q, refl)
 
 pub Bridge::power_on : OneOutcome BridgePowerOn.Kinds.ps BridgePowerOn.Kinds.r BridgePowerOn.Reads.Post
 Bridge::power_on κs a r r' left left' p q = (only p q, refl)

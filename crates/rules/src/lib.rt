@@ -3,7 +3,7 @@
 #![tactic(auto)]
 
 ghost use Rattle.std.specs.Prelude.{◌≡◌};
-ghost use Rattle.rules.specs.Held.{drives_of, lun_number, max_lun, page_bytes, page_of, power_on, power_on_bytes};
+ghost use Rattle.rules.specs.Held.{configuration, drives_of, lun_number, max_lun, page_bytes, page_of, power_on, power_on_bytes};
 ghost use Rattle.rules.specs.Packets.{inward};
 ghost use Rattle.rules.specs.Reports.{direction_number};
 
@@ -51,6 +51,7 @@ impl From<Lun> for u8 {
     }
 }
 
+// The fields stand one by one, here and in `Change` and StatusPacket, as the rules' `made` and the statement `Sized` name them.
 #[derive(Clone, Copy)]
 pub enum Phase {
     Awaiting,
@@ -131,6 +132,7 @@ impl From<u32> for Drives {
 }
 
 impl Drives {
+    // By a match: a drive's place in the list is not a LUN.
     pub fn max_lun(self) -> u8
         ensures { result ≡ max_lun self }
     {
@@ -159,6 +161,12 @@ pub struct Bridge {
 }
 
 impl Bridge {
+    pub fn configuration(self) -> u8
+        ensures { result ≡ configuration self }
+    {
+        if self.configured { 2 } else { 0 }
+    }
+
     pub fn power_on(dock: Dock) -> Self
         ensures { result ≡ power_on dock }
     {

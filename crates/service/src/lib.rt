@@ -1,9 +1,8 @@
 // The tools for field service, for C on the service laptop: thin exported calls on lent bytes. host/service.h is what a caller reads.
 #![tactic(auto)]
 
-ghost use Rattle.std.specs.Prelude.{◌≡◌, ◌+◌, ◌*◌, ◌<◌};
+ghost use Rattle.std.specs.Prelude.{◌≡◌};
 ghost use Rattle.rules.specs.Held.{page_of};
-ghost use Rattle.rules.specs.Numbered.{answer_of, count_of};
 ghost use Rattle.settings.specs.Store.{settings_from, read_by, newest};
 ghost use Rattle.service.specs.Calls.{readout, showing, result as laying, lays, mending, mends_for};
 

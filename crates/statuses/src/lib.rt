@@ -12,7 +12,7 @@ use outcomes::{Outcome, done, refused};
 use rules::refusals::Refusal;
 use rules::{Bridge, Change, Phase, StatusPacket};
 
-// The four bytes of a number from `at` on, low byte first.
+// The four bytes of a number from `at` on, low byte first. Not in `lent`: what is public has no `requires`, and would test for the room once more.
 fn put_long(room: &mut [u8], at: usize, n: u32)
     requires { at + 4 ≤ length room.old }
     ensures { room.new ≡ sets room.old at (bytes4 n) }

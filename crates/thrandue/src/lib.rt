@@ -4,9 +4,8 @@
 ghost use Rattle.std.specs.Prelude.{◌≡◌, [], ◌++◌, length, drop};
 ghost use Rattle.outcomes.specs.Outcomes.{left_by};
 ghost use Rattle.rules.specs.Held.{world, page_of, drives_of, docked, by_default, configuration};
-ghost use Rattle.rules.specs.Numbered.{answer_of, count_of};
 ghost use Rattle.rules.specs.Promise.{served};
-ghost use Rattle.rules.specs.declared.Stands.TheVariants.{InRoom, InMemory};
+ghost use Rattle.rules.specs.declared.Stands.TheVariants.{InMemory};
 ghost use Rattle.rules.specs.Step.{BusReset, Control, Report, StatusRequest};
 ghost use Rattle.settings.specs.Store.{reading, read_by, newest, in_force};
 ghost use Rattle.image.specs.Image.{bytes_of, decode, held_of, powered};
@@ -24,7 +23,7 @@ use settings::Settings;
 
 const NO_LUN: u8 = 0xFF;
 
-// What an event leaves in the image and returns. Out of line it gets an outcome through memory, and a status request takes twice the instructions.
+// What an event leaves in the image and returns. Out of line it gets an outcome through memory, and a status request takes twice the instructions: tried.
 #[inline(always)]
 fn leave(image: &mut [u8; IMAGE], o: Outcome) -> u32
     ensures { LeftInImage o image.old result image.new }
@@ -40,7 +39,7 @@ fn found(part: Part) -> u64
     256 * part.length as u64 + 0x100000000 * (0x10000 + u16::from(part.start) as u64)
 }
 
-// A granted request, with the configuration bytes at the front of the image.
+// A granted request, with the configuration bytes at the front of the image; the rest is lent one by one, as C lends it.
 fn serve(
     r: Request,
     s: Setup,
@@ -177,7 +176,7 @@ pub extern "C" fn thrandue_lun(image: &[u8; IMAGE]) -> u8
 pub extern "C" fn thrandue_configuration(image: &[u8; IMAGE]) -> u8
     ensures { result ≡ configuration (decode image.now) }
 {
-    if image::load(image).configured { 2 } else { 0 }
+    image::load(image).configuration()
 }
 
 #[unsafe(no_mangle)]
