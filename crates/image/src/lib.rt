@@ -1,5 +1,5 @@
-// The image of a bridge with its configuration bytes and what it holds of a packet in bursts: sixty-two bytes, read, and changed in place. They are C's, who
-// lends them as an array: so functions, and no methods of a struct.
+// The image of a bridge with its configuration bytes and what it holds of a packet in bursts: sixty-two bytes, read, and changed in place. They are C's,
+// who lends them as an array: so functions, and no methods of a struct.
 #![tactic(auto)]
 
 ghost use Rattle.std.specs.Prelude.{◌≡◌, ◌+◌, ◌≤◌, [], cond, set, take, drop};
@@ -100,7 +100,8 @@ fn chosen<T: Copy>(bits: u8, zero: T, one: T) -> T
     if bits % 2 == 1 { one } else { zero }
 }
 
-// What is fixed at power-on, as one byte of the image, by `dock_byte` of the specs: the page size below, above it whether the dock is bus powered, and the highest LUN.
+// What is fixed at power-on, as one byte of the image, by `dock_byte` of the specs: the page size below, above it whether the dock is bus powered, and
+// the highest LUN.
 fn dock_byte(dock: Dock) -> u8
     ensures { result ≡ dock_byte dock }
 {

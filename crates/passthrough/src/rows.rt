@@ -1,5 +1,5 @@
-// A row of operations that grows at the front of the lent room. Apart from the Printer of `records`, which puts bytes: one for both would be public, so without
-// a `requires`, and would test for room at each put. That there is room stands in each contract, of another list in each.
+// A row of operations that grows at the front of the lent room. Apart from the Printer of `records`, which puts bytes: one for both would be public, so
+// without a `requires`, and would test for room at each put. That there is room stands in each contract, of another list in each.
 ghost use Rattle.std.specs.Prelude.{◌≡◌, ◌∷◌, []};
 ghost use Rattle.passthrough.specs.Rows.{seen, listed, after, Fits};
 

@@ -22,8 +22,8 @@ pub struct Ran {
     pub torn: bool,
 }
 
-// Takes whole records from the front of a block, as long as there is room for the longest line. `last`: the stream ends with the block. What is lent comes one
-// by one, as PROMISES has it.
+// Takes whole records from the front of a block, as long as there is room for the longest line. `last`: the stream ends with the block.
+// What is lent comes one by one: a public call, as it was.
 pub fn run(
     b: Bridge,
     bytes: &mut [u8; 16],

@@ -1,5 +1,5 @@
-// Drive reports: BOT's thirteen cases. What a report says stays in numbers, one by one, as C tells them and the rules' `malformed`, `mismatch` and `finished`
-// take them.
+// Drive reports: BOT's thirteen cases. What a report says stays in numbers, one by one, as C tells them and the rules' `malformed`, `mismatch` and
+// `finished` take them.
 #![tactic(auto)]
 
 ghost use Rattle.std.specs.Prelude.{◌≡◌, []};

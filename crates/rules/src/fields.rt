@@ -1,6 +1,6 @@
 // What the fields of a setup may say: the two places, and the two bulk pipes; and of the configuration bytes the first that settings hold, and the one
-// that string index 0 uses as its index. Numbers and no enum: behind the judge `serve` promises of every other number too, as the rules' `in_memory` and `halt_of`
-// have it.
+// that string index 0 uses as its index. Numbers and no enum: behind the judge `serve` promises of every other number too, as the rules' `in_memory` and
+// `halt_of` have it.
 pub const CONFIGURATION_BYTES: u16 = 0x0000;
 
 pub const MEMORY: u16 = 0x0002;
