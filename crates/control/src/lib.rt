@@ -116,6 +116,7 @@ fn seen(b: Bridge, bytes: &[u8; 16]) -> Seen
     }
 }
 
+// What is lent comes one by one: a public call, as it was.
 pub fn control(
     b: Bridge,
     bytes: &mut [u8; 16],

@@ -89,7 +89,7 @@ fn set(image: &mut [u8], list: &mut [u32]) -> usize
     requires { (0x89 ≤ length image.old) × (length (changes image.old) ≤ length list.old) }
     ensures { (result ≡ length (changes image.old)) × (image.new ≡ mended image.old) × (list.new ≡ laid (entries image.old) list.old) }
 {
-    // By hand, as many as are listed: beside list.iter_mut() an invariant cannot say what stands in the list.
+    // By hand, as many as are listed: tried over list.iter_mut(), beside which an invariant cannot say what stands in the list.
     let mut n = 0;
     for at in 0..SHORTEST {
         let old = image[at];

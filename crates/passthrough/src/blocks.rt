@@ -150,44 +150,33 @@ impl<'a> Block<'a> {
     fn poll(&self) -> Option<Operation>
         ensures { listed result ≡ polls self.now.bytes.now }
     {
-        if self.acts(POLL_ALT_STAT_OVERRIDE) {
-            return None;
-        }
-        Some(Operation::Poll)
+        (!self.acts(POLL_ALT_STAT_OVERRIDE)).then_some(Operation::Poll)
     }
 
     // If it is selected.
     fn write(&self, register: Register) -> Option<Operation>
         ensures { listed result ≡ writes self.now.bytes.now (register.number ∷ []) }
     {
-        if self.selects(register) {
-            return Some(Operation::Write(register, self.content(register)));
-        }
-        None
+        self.selects(register)
+            .then_some(Operation::Write(register, self.content(register)))
     }
 
     fn read(&self, register: Register) -> Option<Operation>
         ensures { listed result ≡ reads self.now.bytes.now (register.number ∷ []) }
     {
-        if self.selects(register) {
-            return Some(Operation::Read(register));
-        }
-        None
+        self.selects(register).then_some(Operation::Read(register))
     }
 
     // If L > 0.
     fn transfer(&self) -> Option<Operation>
         ensures { listed result ≡ transfers self.now.bytes.now self.now.expected self.now.direction }
     {
-        if self.expected == 0 {
-            return None;
-        }
         let operand = self.direction.is_in() as u8
             + 2 * bit(self.action, UDMA_COMMAND)
             + 4 * bit(self.action, D_ERROR_OVERRIDE)
             + 8 * bit(self.action, P_ERROR_OVERRIDE)
             + 16 * bit(self.action, IDENTIFY_PACKET_DEVICE);
-        Some(Operation::Transfer(operand))
+        (self.expected > 0).then_some(Operation::Transfer(operand))
     }
 
     // The operand of the select.
@@ -269,7 +258,7 @@ impl<'a> Block<'a> {
         self.put_reads(row);
     }
 
-    // The select's operand is found once too, and before anything is stored.
+    // The select's operand is found before the row is begun: behind a store the block's bytes would be read again.
     #[tactic(auto, unfolding(rules::specs::Operations::operations_of))]
     fn put(&self, row: &mut Row)
         requires { Fits (made_of self.now) row.old }

@@ -86,7 +86,7 @@ impl<'a> Bench<'a> {
         ensures { Does self.old (event_of 2 payload.now) result self.new }
     {
         let (setup, host) = payload.split_at(payload.len().min(SETUP));
-        // One by one, since the check has no rule yet for a field that is lent in the list of arguments beside others that are.
+        // A name for each: tried in the list of arguments and by taking the struct apart, and the proof did not close.
         let b = self.bridge;
         let bytes = &mut *self.bytes;
         let memory = &mut *self.memory;
@@ -106,7 +106,7 @@ impl<'a> Bench<'a> {
         self.done(o, Handed::Operations)
     }
 
-    // A report holds direction, failed and the amount.
+    // A report holds direction, failed and the amount: six bytes, by the fact of its Record; as an array their number would be tested again.
     fn report(&mut self, payload: &[u8]) -> Answered
         requires { length payload.now ≡ 6 }
         ensures { Does self.old (event_of 4 payload.now) result self.new }

@@ -13,7 +13,7 @@ use events::{Bench, Turned};
 use lines::Printer;
 use rules::Bridge;
 
-// The bridge as the events leave it, the bytes used and written, and whether a torn record ended the stream.
+// The bridge as the events leave it, the bytes used and written, and whether a torn record ended the stream; with one that did, the others hold too.
 #[derive(Clone, Copy)]
 pub struct Ran {
     pub bridge: Bridge,

@@ -56,7 +56,7 @@ fn digit(d: u8) -> u8
     if d < 10 { b'0' + d } else { b'A' + (d - 10) }
 }
 
-// "0 done", and else the refusal's.
+// "0 done", and else the refusal's. Not by `in_one_number`: a line has the count in its bytes.
 fn number_of(answer: Result<u16, Refusal>) -> u8
     ensures { result ≡ answer_of answer }
 {

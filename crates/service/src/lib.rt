@@ -10,6 +10,7 @@ use rules::PageSize;
 use rules::refusals::in_one_number;
 use settings::{RECORD, Settings};
 
+// The answer alone, as the header has it.
 #[unsafe(no_mangle)]
 pub extern "C" fn service_read(store: &[u8], bytes: &mut [u8; 14], page: &mut u32) -> u8
     ensures { readout result bytes.new page.new ≡ showing (read_by newest store.now) bytes.old page.old }

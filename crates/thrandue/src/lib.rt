@@ -21,6 +21,7 @@ use rules::refusals::{Refusal, in_one_number};
 use rules::{Bridge, Dock, Drives, PageSize, Phase, Request, Setup};
 use settings::Settings;
 
+// No Option: the number is the header's.
 const NO_LUN: u8 = 0xFF;
 
 // What an event leaves in the image and returns. Out of line it gets an outcome through memory, and a status request takes twice the instructions: tried.
