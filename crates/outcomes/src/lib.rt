@@ -2,7 +2,7 @@
 // outcome alone.
 #![tactic(auto)]
 
-ghost use Rattle.std.specs.Prelude.{◌≡◌, [], true, false};
+ghost use Rattle.std.specs.Prelude.{◌≡◌, [], true, false, cond};
 ghost use Rattle.outcomes.specs.Outcomes.{outcome, Answers};
 ghost use Rattle.rules.specs.Held.{configuring, in_phase, halted as marked, halting, clearing, is_stopped};
 ghost use Rattle.rules.specs.Changes.{made};
@@ -63,23 +63,13 @@ fn halted(outward: bool, inward: bool, b: Bridge) -> Bridge
     }
 }
 
-// Halts the pipe of a direction, if told so.
-fn halt(halts: bool, direction: Direction, b: Bridge) -> Bridge
-    ensures { result ≡ halting halts direction b }
+// The pipe of a direction is halted, or its halt is cleared.
+fn mark(direction: Direction, halt: bool, b: Bridge) -> Bridge
+    ensures { result ≡ cond halt (halting true direction b) (clearing direction b) }
 {
     match direction {
-        Direction::Out => halted(halts | b.halts.outward, b.halts.inward, b),
-        Direction::In => halted(b.halts.outward, halts | b.halts.inward, b),
-    }
-}
-
-// Apart from `halt`, which keeps a halt that stands, as the rules have `clearing` and `halting`.
-fn clear(direction: Direction, b: Bridge) -> Bridge
-    ensures { result ≡ clearing direction b }
-{
-    match direction {
-        Direction::Out => halted(false, b.halts.inward, b),
-        Direction::In => halted(b.halts.outward, false, b),
+        Direction::Out => halted(halt, b.halts.inward, b),
+        Direction::In => halted(b.halts.outward, halt, b),
     }
 }
 
@@ -127,11 +117,12 @@ pub fn changed(change: Change, b: Bridge) -> Bridge
                 residue,
                 status,
             };
-            halt(halts, direction, in_phase(waiting, b))
+            let b = in_phase(waiting, b);
+            if halts { mark(direction, true, b) } else { b }
         }
         Change::Stops => in_phase(Phase::Stopped { reset: false }, halted(true, true, b)),
         Change::Notes => in_phase(Phase::Stopped { reset: true }, b),
-        Change::Clears(direction) => clear(direction, b),
+        Change::Clears(direction) => mark(direction, false, b),
         Change::Ends => fresh(b.configured, b),
     }
 }
