@@ -105,7 +105,7 @@ pub fn look(
 }
 
 // The caller's own slice, as far as it goes.
-pub fn find<'a>(memory: &'a [u8], part: Part) -> &'a [u8]
+pub fn find(memory: &[u8], part: Part) -> &[u8]
     ensures { PartOf memory.entry (number_of part.start) part.length result }
 {
     lent::part(memory, u16::from(part.start) as usize, part.length as usize)

@@ -36,7 +36,7 @@ pub fn copy(dst: &mut [u8], at: usize, src: &[u8])
 }
 
 // n bytes of a slice, from a place on and as far as it goes.
-pub fn part<'a>(s: &'a [u8], from: usize, n: usize) -> &'a [u8]
+pub fn part(s: &[u8], from: usize, n: usize) -> &[u8]
     ensures { PartOf s.entry from n result }
 {
     let start = from.min(s.len());

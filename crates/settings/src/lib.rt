@@ -101,7 +101,7 @@ struct Record<'a> {
 
 // The record at the front of a store: checks 20, 21 and 22.
 #[tactic(auto, unfolding(crate::specs::Store::record_read))]
-fn read_record<'a>(store: &'a [u8]) -> Result<Record<'a>, Refusal>
+fn read_record(store: &[u8]) -> Result<Record<'_>, Refusal>
     ensures { MatchResult result (λ r. (reading (Ok r.settings) ≡ record_read newest store.now) × (r.behind.now ≡ drop (4 + length_of store.now) store.now)) (λ refusal. reading (Err refusal) ≡ record_read newest store.now) }
 {
     let &[l0, l1, k0, k1, ref rest @ ..] = store else {
