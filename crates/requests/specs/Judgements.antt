@@ -11,9 +11,9 @@ use Rattle.rules.specs.Requests.{Named, Unknown, Known, Describes, request_of}
 use Rattle.requests.specs.declared.Place.{Place}
 use Rattle.requests.specs.declared.Place.TheVariants.{ConfigurationBytes, Memory}
 use Rattle.requests.specs.declared.Row.{Row}
-use Rattle.requests.specs.declared.Row.TheVariants.{Request as Requests, Descriptor}
+use Rattle.requests.specs.declared.Row.TheVariants as row
 use Rattle.requests.specs.declared.Granted.{Granted}
-use Rattle.requests.specs.declared.Granted.TheVariants.{Request as Does, Descriptor as Tells}
+use Rattle.requests.specs.declared.Granted.TheVariants as granted
 
 -- wValue of each place
 abbrev pub place_number : Place → ℕ
@@ -21,11 +21,11 @@ place_number ConfigurationBytes = 0x0000
 place_number Memory = 0x0002
 
 abbrev pub row_names : Row → Named
-row_names (Requests r) = Known r
-row_names Descriptor = Describes
+row_names (row.Request r) = Known r
+row_names row.Descriptor = Describes
 
 abbrev pub judged_by : Request → Setup → ℕ → Result Granted ℕ
-judged_by r s answer = checked (Does r s) answer
+judged_by r s answer = checked (granted.Request r s) answer
 
 -- the checks of a request for a descriptor: 7, those of the descriptor, and 2
 abbrev pub described_checks : Seen → List ℕ → Setup → ℕ → List Check
@@ -36,7 +36,7 @@ described_checks seen memory s host =
 
 abbrev pub found_by : Seen → List ℕ → Setup → ℕ → Result Granted ℕ
 found_by seen memory s answer =
-    checked (Tells
+    checked (granted.Descriptor
     (record {
       start = place_in seen.bus_powered seen.first_string s.value;
       length = length (told seen.bus_powered seen.first_string (fitted memory) s.value s.length);
