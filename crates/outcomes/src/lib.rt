@@ -36,6 +36,7 @@ pub fn done(count: u16, change: Change) -> Outcome
     }
 }
 
+#[tactic(auto, using(rules::proofs::Promises::reset_done))]
 pub fn bus_reset() -> Outcome
     ensures { (b : Bridge) → Answers b (λ n. BusReset) [] result [] }
 {
