@@ -55,7 +55,7 @@ impl TryFrom<u16> for Kind {
     }
 }
 
-// The last byte of a paged record: the page size divided by 32.
+// The last byte of a paged record: the page size divided by 32. Its field has a name, since `.0` is for an index and an address alone (tests/apart).
 #[derive(Clone, Copy)]
 struct PageByte {
     value: u8,
