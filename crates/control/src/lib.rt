@@ -26,8 +26,8 @@ pub struct ControlOutcome {
     pub stands: Stands,
 }
 
-// The host's bytes stand at their addresses, of the memory or of the configuration. A call for each: tried as a choice of the two slices, which are lent
-// for writing, and the proof did not close.
+// The host's bytes stand at their addresses, of the memory or of the configuration. A call for each: of two slices lent for writing one is chosen only in
+// a function of its own, whose contract tells what each becomes, and that is longer.
 fn load(s: Setup, host: &[u8], bytes: &mut [u8], memory: &mut [u8])
     ensures { (bytes.new ≡ bytes_after (Known Request.LoadConfigData) s host.now bytes.old) × (memory.new ≡ memory_after (Known Request.LoadConfigData) s host.now memory.old) }
 {

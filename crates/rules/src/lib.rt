@@ -205,7 +205,8 @@ pub enum Change {
         tag: u32,
         length: u32,
     },
-    // Whether the pipe halts stands apart from its direction, as in the rules' `finished` and `halting`.
+    // Whether the pipe halts stands apart from its direction: what a report and a packet promise, by the rules' `finished` and `command_taken`, tells the
+    // direction of a pipe that is not halted too.
     Finishes {
         direction: Direction,
         halts: bool,
