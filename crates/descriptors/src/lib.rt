@@ -17,13 +17,13 @@ pub struct Part {
     pub length: u16,
 }
 
-// Descriptor types (USB 2.0, table 9-5). The byte itself is kept beside its kind: tried as `kind as u8`, each descriptor takes five instructions more.
+// Descriptor types (USB 2.0, table 9-5).
 #[derive(Clone, Copy)]
 enum Kind {
-    Device,
-    Configuration,
-    String,
-    Qualifier,
+    Device = 1,
+    Configuration = 2,
+    String = 3,
+    Qualifier = 6,
 }
 
 impl Kind {
@@ -95,7 +95,7 @@ pub fn look(
         return Err(Refusal::PastMemory);
     }
     let length = kind.length_at(memory, at);
-    if memory[at + 1] != number || (length as usize) < head {
+    if memory[at + 1] != kind as u8 || (length as usize) < head {
         return Err(Refusal::NoDescriptor);
     }
     if memory.len() < at + length as usize {
