@@ -12,9 +12,9 @@ use Rattle.std.proofs.lemmas.Slice.{put_mid-paste}
 use Rattle.rules.specs.Words.{over}
 use Rattle.rules.proofs.Rows.{over_pastes}
 
--- a row that ends before the place
-pub over_beyond : (row : List ℕ) (at : ℕ) (xs : List ℕ) → length row ≤ at → row ≡ over row at xs
-over_beyond row at xs h = paste-zero row at xs ∙ sym (over_pastes row at xs 0 (omega arith))
+-- nothing to copy, or a row that ends before the place
+pub over_unmoved : (row : List ℕ) (at : ℕ) (xs : List ℕ) → min (length xs) (length row - at) ≤ 0 → row ≡ over row at xs
+over_unmoved row at xs h = paste-zero row at xs ∙ sym (over_pastes row at xs 0 (omega arith))
 
 -- what is copied into a part of it
 pub over_copied : (row : List ℕ) (at : ℕ) (xs : List ℕ) (n : ℕ) (ys : List ℕ) → n ≡ min (length xs) (length row - at) → ys ≡ take n xs

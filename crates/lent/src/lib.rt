@@ -25,12 +25,12 @@ pub fn bytes_of(n: u32) -> [u8; 4]
 }
 
 // Copies src into dst, from `at` on and as far as dst goes.
-#[tactic(auto, using(crate::proofs::Copies::over_beyond, crate::proofs::Copies::over_copied))]
+#[tactic(auto, using(crate::proofs::Copies::over_unmoved, crate::proofs::Copies::over_copied))]
 pub fn copy(dst: &mut [u8], at: usize, src: &[u8])
     ensures { dst.new ≡ over dst.old at src.now }
 {
-    if at < dst.len() {
-        let n = src.len().min(dst.len() - at);
+    let n = src.len().min(dst.len().saturating_sub(at));
+    if n > 0 {
         dst[at..at + n].copy_from_slice(&src[..n]);
     }
 }
