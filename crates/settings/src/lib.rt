@@ -5,7 +5,6 @@ ghost use Rattle.std.specs.Prelude.{◌≡◌, ◌+◌, ◌*◌, ◌/◌, false,
 ghost use Rattle.rules.specs.Held.{page_bytes, page_of};
 ghost use Rattle.rules.specs.Numbered.{by_number, checked, answer_of};
 ghost use Rattle.rules.specs.Words.{◌if◌, first};
-ghost use Rattle.rules.specs.declared.refusals.Refusal.TheVariants.{UnknownKind};
 ghost use Rattle.settings.specs.Store.{length_of, kind_number, length_for, knows, settings_of, hidden, reading, record_read, read_by, newest, written, wrote, written_in};
 
 use rules::PageSize;
@@ -44,9 +43,9 @@ enum Kind {
 impl TryFrom<u16> for Kind {
     type Error = Refusal;
 
-    ghost try_from_gives = { λ number found. MatchResult found (λ kind. kind_number kind ≡ number) (λ refusal. (refusal ≡ UnknownKind) × (knows newest number ≡ false)) };
-
-    fn try_from(number: u16) -> Result<Kind, Refusal> {
+    fn try_from(number: u16) -> Result<Kind, Refusal>
+        ensures { MatchResult result (λ kind. kind_number kind ≡ number) (λ refusal. (refusal ≡ Refusal.UnknownKind) × (knows newest number ≡ false)) }
+    {
         match number {
             0x0101 => Ok(Kind::Plain),
             0x0102 => Ok(Kind::Paged),
