@@ -57,11 +57,11 @@ fn wanted(image: &[u8], at: usize, byte: u8) -> u8
 
 // How many bytes of an image are to change.
 fn count(image: &[u8]) -> usize
-    requires { 0x89 ≤ length image.now }
     ensures { result ≡ length (unlike image.now) }
 {
-    image[..SHORTEST]
+    image
         .iter()
+        .take(SHORTEST)
         .enumerate()
         .filter(|&(at, &byte)| byte != wanted(image, at, byte))
         .count()
