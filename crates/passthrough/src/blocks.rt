@@ -14,22 +14,18 @@ const SELECTION: usize = 3;
 
 const CONTENTS: usize = 5;
 
-// The bits of the action, by their names in source 001. Numbers and no enum, which would be cast to its place at every use.
-const TASK_FILE_READ: u8 = 0;
-
-const DEVICE_SELECTION_OVERRIDE: u8 = 1;
-
-const POLL_ALT_STAT_OVERRIDE: u8 = 2;
-
-const P_ERROR_OVERRIDE: u8 = 3;
-
-const D_ERROR_OVERRIDE: u8 = 4;
-
-const DEV_OVERRIDE: u8 = 5;
-
-const UDMA_COMMAND: u8 = 6;
-
-const IDENTIFY_PACKET_DEVICE: u8 = 7;
+// The bits of the action, by their names in source 001, each with its place.
+#[derive(Clone, Copy)]
+enum ActionBit {
+    TaskFileRead = 0,
+    DeviceSelectionOverride = 1,
+    PollAltStatOverride = 2,
+    PErrorOverride = 3,
+    DErrorOverride = 4,
+    DevOverride = 5,
+    UdmaCommand = 6,
+    IdentifyPacketDevice = 7,
+}
 
 // The bits of the device register that drives built to the early ATA standards expect to be one.
 const DEVICE_ONES: u8 = 0xA0;
@@ -62,7 +58,7 @@ impl<'a> Block<'a> {
     ghost use Rattle.std.specs.Prelude.{◌∷◌, []};
     ghost use Rattle.rules.specs.Operations.{codes, polls, transfers, writes, reads, commanded, write_block, read_block};
     ghost use Rattle.passthrough.specs.Rows.{listed, after, Fits, rising};
-    ghost use Rattle.passthrough.specs.Blocks.{select_of, made_of};
+    ghost use Rattle.passthrough.specs.Blocks.{bit_number, select_of, made_of};
 
     pub(crate) fn new(
         bytes: &'a [u8; 16],
@@ -82,11 +78,17 @@ impl<'a> Block<'a> {
         }
     }
 
-    fn acts(&self, k: u8) -> bool
-        requires { k < 8 }
-        ensures { result ≡ bit k (byte 2 self.now.bytes.now) }
+    // A bit of the action, as 0 or 1 and as a test.
+    fn action_bit(&self, which: ActionBit) -> u8
+        ensures { result ≡ bit_of (bit_number which) (byte 2 self.now.bytes.now) }
     {
-        bit(self.action, k) == 1
+        bit(self.action, which as u8)
+    }
+
+    fn acts(&self, which: ActionBit) -> bool
+        ensures { result ≡ bit (bit_number which) (byte 2 self.now.bytes.now) }
+    {
+        self.action_bit(which) == 1
     }
 
     fn selects(&self, register: Register) -> bool
@@ -105,8 +107,8 @@ impl<'a> Block<'a> {
     fn is_readable(&self) -> bool
         ensures { result ≡ readable (byte 2 self.now.bytes.now) self.now.expected self.now.direction }
     {
-        !self.acts(P_ERROR_OVERRIDE)
-            & !self.acts(D_ERROR_OVERRIDE)
+        !self.acts(ActionBit::PErrorOverride)
+            & !self.acts(ActionBit::DErrorOverride)
             & (self.expected == 8)
             & self.direction.is_in()
     }
@@ -121,7 +123,7 @@ impl<'a> Block<'a> {
             & (self.bytes[13] == 0)
             & (self.bytes[14] == 0)
             & (self.bytes[15] == 0)
-            && (!self.acts(TASK_FILE_READ) || self.is_readable())
+            && (!self.acts(ActionBit::TaskFileRead) || self.is_readable())
     }
 
     #[tactic(auto, using(crate::proofs::Counts::counts))]
@@ -129,9 +131,9 @@ impl<'a> Block<'a> {
         ensures { result ≡ length (made_of self.now) }
     {
         // Poll, select, and an operation for each register.
-        let common = 2 - bit(self.action, POLL_ALT_STAT_OVERRIDE)
+        let common = 2 - self.action_bit(ActionBit::PollAltStatOverride)
             + self.selection.count_ones() as u8;
-        if self.acts(TASK_FILE_READ) {
+        if self.acts(ActionBit::TaskFileRead) {
             return common;
         }
         // The read of register 7; register 6 is not written, since the select stands for it; the transfer.
@@ -150,7 +152,7 @@ impl<'a> Block<'a> {
     fn poll(&self) -> Option<Operation>
         ensures { listed result ≡ polls self.now.bytes.now }
     {
-        (!self.acts(POLL_ALT_STAT_OVERRIDE)).then_some(Operation::Poll)
+        (!self.acts(ActionBit::PollAltStatOverride)).then_some(Operation::Poll)
     }
 
     // If it is selected.
@@ -172,10 +174,10 @@ impl<'a> Block<'a> {
         ensures { listed result ≡ transfers self.now.bytes.now self.now.expected self.now.direction }
     {
         let operand = self.direction.is_in() as u8
-            + 2 * bit(self.action, UDMA_COMMAND)
-            + 4 * bit(self.action, D_ERROR_OVERRIDE)
-            + 8 * bit(self.action, P_ERROR_OVERRIDE)
-            + 16 * bit(self.action, IDENTIFY_PACKET_DEVICE);
+            + 2 * self.action_bit(ActionBit::UdmaCommand)
+            + 4 * self.action_bit(ActionBit::DErrorOverride)
+            + 8 * self.action_bit(ActionBit::PErrorOverride)
+            + 16 * self.action_bit(ActionBit::IdentifyPacketDevice);
         (self.expected > 0).then_some(Operation::Transfer(operand))
     }
 
@@ -184,7 +186,7 @@ impl<'a> Block<'a> {
         ensures { result ≡ select_of self.now }
     {
         let device = self.content(Register::DEVICE);
-        let own = if self.acts(DEV_OVERRIDE) {
+        let own = if self.acts(ActionBit::DevOverride) {
             bit(device, 4)
         } else {
             u8::from(self.lun)
@@ -225,7 +227,7 @@ impl<'a> Block<'a> {
         requires { Fits (commanded select self.now.bytes.now) row.old }
         ensures { row.new ≡ after (commanded select self.now.bytes.now) row.old }
     {
-        if self.acts(DEVICE_SELECTION_OVERRIDE) {
+        if self.acts(ActionBit::DeviceSelectionOverride) {
             row.extend(self.write(Register::COMMAND));
             row.put(Operation::Select(select));
         } else {
@@ -265,7 +267,7 @@ impl<'a> Block<'a> {
         ensures { row.new ≡ after (made_of self.now) row.old }
     {
         let select = self.select();
-        if self.acts(TASK_FILE_READ) {
+        if self.acts(ActionBit::TaskFileRead) {
             self.put_read_block(select, row);
         } else {
             self.put_write_block(select, row);
