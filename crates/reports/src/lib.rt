@@ -1,50 +1,82 @@
-// Drive reports: BOT's thirteen cases. What a report says stays in numbers, one by one, as C tells them and the rules' `malformed`, `mismatch` and
-// `finished` take them.
+// Drive reports: BOT's thirteen cases.
 #![tactic(auto)]
 
 ghost use Rattle.std.specs.Prelude.{◌≡◌, []};
 ghost use Rattle.outcomes.specs.Outcomes.{Answers};
 ghost use Rattle.rules.specs.Step.{Report};
-ghost use Rattle.rules.specs.Reports.{malformed, mismatch, finished};
+ghost use Rattle.reports.specs.Said.{Says};
 
 use outcomes::{Outcome, done, refused};
 use rules::refusals::Refusal;
 use rules::{Bridge, Change, Direction, Phase, StatusPacket};
 
-#[tactic(auto, unfolding(rules::specs::Reports::malformed))]
-fn is_malformed(direction: u8, failed: u8, amount: u32) -> bool
-    ensures { result ≡ malformed direction failed amount }
-{
-    (direction > 2) | (failed > 1) | ((direction == 0) & (amount > 0))
+// What a report says that is not malformed: which way the drive moved data, if it did; whether it failed; and how much it moved.
+#[derive(Clone, Copy)]
+struct Said {
+    moved: Option<Direction>,
+    failed: bool,
+    amount: u32,
 }
 
-// The drive moved data the wrong way, or more than the host asked for. With L = 0 any amount is more.
-#[tactic(auto, using(crate::proofs::Mismatches::mismatch_by))]
-fn is_mismatch(length: u32, host: Direction, direction: u8, amount: u32) -> bool
-    ensures { result ≡ mismatch length host direction amount }
-{
-    ((amount > 0) & (direction != u8::from(host))) | (amount > length)
-}
+impl Said {
+    ghost use Rattle.rules.specs.Words.{one};
+    ghost use Rattle.rules.specs.Reports.{mismatch, finished};
+    ghost use Rattle.reports.specs.Said.{moved_number};
 
-// What a report changes that is not malformed, on a command of this direction, tag and L.
-fn taken(host: Direction, tag: u32, length: u32, direction: u8, failed: u8, amount: u32) -> Change
-    ensures { result ≡ finished (mismatch length host direction amount) host tag length failed amount }
-{
-    if is_mismatch(length, host, direction, amount) {
-        return Change::Finishes {
-            direction: host,
-            halts: length > 0,
-            status: StatusPacket::PHASE_ERROR,
-            tag,
-            residue: length,
+    #[tactic(auto, unfolding(rules::specs::Reports::malformed))]
+    fn of(direction: u8, failed: u8, amount: u32) -> Option<Said>
+        ensures { Says direction failed amount result }
+    {
+        let moved = match (direction, amount) {
+            (0, 0) => None,
+            (1, _) => Some(Direction::In),
+            (2, _) => Some(Direction::Out),
+            _ => return None,
         };
+        let failed = match failed {
+            0 => false,
+            1 => true,
+            _ => return None,
+        };
+        Some(Said {
+            moved,
+            failed,
+            amount,
+        })
     }
-    Change::Finishes {
-        direction: host,
-        halts: amount < length,
-        status: failed,
-        tag,
-        residue: length - amount,
+
+    // The drive moved data the wrong way, or more than the host asked for. With L = 0 any amount is more.
+    #[tactic(auto, using(crate::proofs::Mismatches::mismatch_by))]
+    fn is_mismatch(self, length: u32, host: Direction) -> bool
+        ensures { result ≡ mismatch length host (moved_number self.moved) self.amount }
+    {
+        let astray = match self.moved {
+            Some(moved) => u8::from(moved) != u8::from(host),
+            None => true,
+        };
+        ((self.amount > 0) & astray) | (self.amount > length)
+    }
+
+    // What it changes, on a command of this direction, tag and L.
+    fn finish(self, host: Direction, tag: u32, length: u32) -> Change
+        ensures { result ≡ finished (mismatch length host (moved_number self.moved) self.amount) host tag length (one self.failed) self.amount }
+    {
+        if self.is_mismatch(length, host) {
+            return Change::Finishes {
+                direction: host,
+                halts: length > 0,
+                status: StatusPacket::PHASE_ERROR,
+                tag,
+                residue: length,
+            };
+        }
+        Change::Finishes {
+            direction: host,
+            halts: self.amount < length,
+            status: self.failed as u8,
+            tag,
+            residue: length - self.amount,
+        }
     }
 }
 
@@ -63,8 +95,8 @@ pub fn report(b: Bridge, direction: u8, failed: u8, amount: u32) -> Outcome
     else {
         return refused(Refusal::WrongPhase);
     };
-    if is_malformed(direction, failed, amount) {
+    let Some(said) = Said::of(direction, failed, amount) else {
         return refused(Refusal::Malformed);
-    }
-    done(0, taken(host, tag, length, direction, failed, amount))
+    };
+    done(0, said.finish(host, tag, length))
 }
