@@ -6,7 +6,10 @@ use native.Mathlib.Decide.{le_ind}
 use native.Mathlib.Nat.{le_refl}
 use Rattle.rules.specs.Words.{laid}
 use Rattle.rules.specs.Operations.{Operation, code, codes, writes, reads}
+use Rattle.passthrough.specs.declared.blocks.Access.{Access}
+use Rattle.passthrough.specs.declared.blocks.Access.TheVariants.{Write, Read}
 use Rattle.passthrough.specs.declared.rows.Row.{Row}
+use Rattle.passthrough.specs.Blocks.{accesses}
 use Rattle.passthrough.specs.Rows.{after, rising}
 
 pub length_codes : (os : List Operation) → length (codes os) ≡ length os
@@ -59,22 +62,18 @@ reads_append : (block xs ys : List ℕ) → reads block (xs ++ ys) ≡ reads blo
 reads_append block [] ys = refl
 reads_append block (x ∷ xs) ys = rw (reads_append block xs ys, append_assoc)
 
-pub writes_next : (block : List ℕ) (n : ℕ) → writes block (rising (n + 1)) ≡ writes block (rising n) ++ writes block (n ∷ [])
-writes_next block n = rw add-one (writes_append block (rising n) (n ∷ []))
+accesses_append : (access : Access) (block xs ys : List ℕ) → accesses access block (xs ++ ys) ≡ accesses access block xs ++ accesses access block ys
+accesses_append Write = writes_append
+accesses_append Read = reads_append
 
-pub reads_next : (block : List ℕ) (n : ℕ) → reads block (rising (n + 1)) ≡ reads block (rising n) ++ reads block (n ∷ [])
-reads_next block n = rw add-one (reads_append block (rising n) (n ∷ []))
+pub accesses_next : (access : Access) (block : List ℕ) (n : ℕ)
+    → accesses access block (rising (n + 1)) ≡ accesses access block (rising n) ++ accesses access block (n ∷ [])
+accesses_next access block n = rw add-one (accesses_append access block (rising n) (n ∷ []))
 
-module _ (f : List ℕ → List Operation) (joins : (xs ys : List ℕ) → f (xs ++ ys) ≡ f xs ++ f ys) where
-  within : (n m : ℕ) → n < m → length (f (rising n)) + length (f (n ∷ [])) ≤ length (f (rising m))
-  within n m h =
-      le_ind (λ (k : ℕ). length (f (rising n)) + length (f (n ∷ [])) ≤ length (f (rising k)))
-      (rw (joins, length-append) (le_refl _))
-      (λ k (l : suc n ≤ k) e. rw (joins, length-append) (omega arith))
-      m h
-
-pub writes_fit : (block : List ℕ) (n : ℕ) → n < 6 → length (writes block (rising n)) + length (writes block (n ∷ [])) ≤ length (writes block (rising 6))
-writes_fit block n h = within (writes block) (writes_append block) n 6 h
-
-pub reads_fit : (block : List ℕ) (n : ℕ) → n < 8 → length (reads block (rising n)) + length (reads block (n ∷ [])) ≤ length (reads block (rising 8))
-reads_fit block n h = within (reads block) (reads_append block) n 8 h
+pub accesses_fit : (access : Access) (block : List ℕ) (n m : ℕ) → n < m
+    → length (accesses access block (rising n)) + length (accesses access block (n ∷ [])) ≤ length (accesses access block (rising m))
+accesses_fit access block n m h =
+    le_ind (λ (k : ℕ). length (accesses access block (rising n)) + length (accesses access block (n ∷ [])) ≤ length (accesses access block (rising k)))
+    (rw (accesses_append, length-append) (le_refl _))
+    (λ k (l : suc n ≤ k) e. rw (accesses_append, length-append) (omega arith))
+    m h

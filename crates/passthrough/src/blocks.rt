@@ -27,6 +27,13 @@ enum ActionBit {
     IdentifyPacketDevice = 7,
 }
 
+// What is done to a register that is selected.
+#[derive(Clone, Copy)]
+enum Access {
+    Write,
+    Read,
+}
+
 // The bits of the device register that drives built to the early ATA standards expect to be one.
 const DEVICE_ONES: u8 = 0xA0;
 
@@ -56,9 +63,9 @@ pub(crate) struct Block<'a> {
 
 impl<'a> Block<'a> {
     ghost use Rattle.std.specs.Prelude.{◌∷◌, []};
-    ghost use Rattle.rules.specs.Operations.{codes, polls, transfers, writes, reads, commanded, write_block, read_block};
+    ghost use Rattle.rules.specs.Operations.{codes, polls, transfers, commanded, write_block, read_block};
     ghost use Rattle.passthrough.specs.Rows.{listed, after, Fits, rising};
-    ghost use Rattle.passthrough.specs.Blocks.{bit_number, select_of, made_of};
+    ghost use Rattle.passthrough.specs.Blocks.{accesses, bit_number, select_of, made_of};
 
     pub(crate) fn new(
         bytes: &'a [u8; 16],
@@ -156,17 +163,14 @@ impl<'a> Block<'a> {
     }
 
     // If it is selected.
-    fn write(&self, register: Register) -> Option<Operation>
-        ensures { listed result ≡ writes self.now.bytes.now (register.number ∷ []) }
+    fn access(&self, access: Access, register: Register) -> Option<Operation>
+        ensures { listed result ≡ accesses access self.now.bytes.now (register.number ∷ []) }
     {
-        self.selects(register)
-            .then_some(Operation::Write(register, self.content(register)))
-    }
-
-    fn read(&self, register: Register) -> Option<Operation>
-        ensures { listed result ≡ reads self.now.bytes.now (register.number ∷ []) }
-    {
-        self.selects(register).then_some(Operation::Read(register))
+        let operation = match access {
+            Access::Write => Operation::Write(register, self.content(register)),
+            Access::Read => Operation::Read(register),
+        };
+        self.selects(register).then_some(operation)
     }
 
     // If L > 0.
@@ -199,25 +203,15 @@ impl<'a> Block<'a> {
         byte - 16 * bit(byte, 4) + 16 * own
     }
 
-    // Writes of selected 0 to 5.
-    #[tactic(auto, using(crate::proofs::Growing::rows, crate::proofs::Growing::writes_next, crate::proofs::Growing::writes_fit))]
-    fn put_writes(&self, row: &mut Row)
-        requires { Fits (writes self.now.bytes.now (rising 6)) row.old }
-        ensures { row.new ≡ after (writes self.now.bytes.now (rising 6)) row.old }
+    // Writes or reads of the selected registers below n, rising.
+    #[tactic(auto, using(crate::proofs::Growing::rows, crate::proofs::Growing::accesses_next, crate::proofs::Growing::accesses_fit))]
+    fn put_registers(&self, access: Access, n: u8, row: &mut Row)
+        requires registers { n ≤ 8 }
+        requires room { Fits (accesses access self.now.bytes.now (rising n)) row.old }
+        ensures { row.new ≡ after (accesses access self.now.bytes.now (rising n)) row.old }
     {
-        for number in 0..6 {
-            row.extend(self.write(Register { number }));
-        }
-    }
-
-    // Reads of selected 0 to 7. A loop of its own: one for both would take a closure, and clauses for what that makes of each register.
-    #[tactic(auto, using(crate::proofs::Growing::rows, crate::proofs::Growing::reads_next, crate::proofs::Growing::reads_fit))]
-    fn put_reads(&self, row: &mut Row)
-        requires { Fits (reads self.now.bytes.now (rising 8)) row.old }
-        ensures { row.new ≡ after (reads self.now.bytes.now (rising 8)) row.old }
-    {
-        for number in 0..8 {
-            row.extend(self.read(Register { number }));
+        for number in 0..n {
+            row.extend(self.access(access, Register { number }));
         }
     }
 
@@ -228,11 +222,11 @@ impl<'a> Block<'a> {
         ensures { row.new ≡ after (commanded select self.now.bytes.now) row.old }
     {
         if self.acts(ActionBit::DeviceSelectionOverride) {
-            row.extend(self.write(Register::COMMAND));
+            row.extend(self.access(Access::Write, Register::COMMAND));
             row.put(Operation::Select(select));
         } else {
             row.put(Operation::Select(select));
-            row.extend(self.write(Register::COMMAND));
+            row.extend(self.access(Access::Write, Register::COMMAND));
         }
     }
 
@@ -243,7 +237,7 @@ impl<'a> Block<'a> {
         ensures { row.new ≡ after (write_block select self.now.bytes.now self.now.expected self.now.direction) row.old }
     {
         row.extend(self.poll());
-        self.put_writes(row);
+        self.put_registers(Access::Write, 6, row);
         self.put_command(select, row);
         row.extend(self.transfer());
         row.put(Operation::Read(Register::COMMAND));
@@ -257,7 +251,7 @@ impl<'a> Block<'a> {
     {
         row.extend(self.poll());
         row.put(Operation::Select(select));
-        self.put_reads(row);
+        self.put_registers(Access::Read, 8, row);
     }
 
     // The select's operand is found before the row is begun: behind a store the block's bytes would be read again.
