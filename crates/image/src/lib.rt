@@ -3,11 +3,12 @@
 #![tactic(auto)]
 
 ghost use Rattle.std.specs.Prelude.{◌≡◌, ◌+◌, ◌≤◌, [], cond, set, take, drop};
-ghost use Rattle.rules.specs.Words.{long, byte};
+ghost use Rattle.rules.specs.Words.{long, byte, one};
 ghost use Rattle.rules.specs.Held.{starting, by_default};
 ghost use Rattle.rules.specs.Answers.{seen_of};
 ghost use Rattle.rules.specs.Packets.{signature_of};
 ghost use Rattle.image.specs.Image.{bytes_of, is_marked, is_odd, phase_from, page_code, page_from, dock_byte, dock_of, decode, world_of, held_in, powered, numbered, phased, marked, dropped, calm, put, added};
+ghost use Rattle.image.specs.Stages.{stage_from, stage_number};
 
 use rules::addresses::StringIndex;
 use rules::fields::{FIRST_SETTING, FIRST_STRING};
@@ -41,14 +42,28 @@ const HELD: usize = 30;
 
 const COUNT: usize = 61;
 
-// Numbers and no enum: of an image every byte stands for a phase, by `phase_from` of the specs, and every one but these for a stop.
-const AWAITING: u8 = 0;
+// What the phase's byte says.
+#[derive(Clone, Copy)]
+enum Stage {
+    Awaiting = 0,
+    Busy = 1,
+    StatusWaiting = 2,
+    Stopped = 3,
+}
 
-const BUSY: u8 = 1;
-
-const STATUS_WAITING: u8 = 2;
-
-const STOPPED: u8 = 3;
+impl From<u8> for Stage {
+    // Every other byte says a stop too.
+    fn from(byte: u8) -> Stage
+        ensures { result ≡ stage_from byte }
+    {
+        match byte {
+            0 => Stage::Awaiting,
+            1 => Stage::Busy,
+            2 => Stage::StatusWaiting,
+            _ => Stage::Stopped,
+        }
+    }
+}
 
 // The count of what is more than a packet, which is too long by a byte or by more.
 const TOO_LONG: usize = 32;
@@ -133,20 +148,20 @@ fn phase_from(kind: u8, detail: u8, tag: u32, amount: u32) -> Phase
 {
     let direction = chosen(detail, Direction::Out, Direction::In);
     let lun = chosen(detail / 2, Lun::Lun0, Lun::Lun1);
-    match kind {
-        AWAITING => Phase::Awaiting,
-        BUSY => Phase::Busy {
+    match Stage::from(kind) {
+        Stage::Awaiting => Phase::Awaiting,
+        Stage::Busy => Phase::Busy {
             direction,
             lun,
             tag,
             length: amount,
         },
-        STATUS_WAITING => Phase::StatusWaiting {
+        Stage::StatusWaiting => Phase::StatusWaiting {
             tag,
             residue: amount,
             status: detail,
         },
-        _ => Phase::Stopped {
+        Stage::Stopped => Phase::Stopped {
             reset: detail % 2 == 1,
         },
     }
@@ -259,28 +274,27 @@ fn put_numbers(image: &mut [u8; IMAGE], tag: u32, amount: u32)
     lent::copy(image, AMOUNT, &lent::bytes_of(amount));
 }
 
-fn put_phase(image: &mut [u8; IMAGE], kind: u8, detail: u8)
-    ensures { image.new ≡ phased kind detail image.old }
+fn put_phase(image: &mut [u8; IMAGE], stage: Stage, detail: u8)
+    ensures { image.new ≡ phased (stage_number stage) detail image.old }
 {
-    image[PHASE] = kind;
+    image[PHASE] = stage as u8;
     image[DETAIL] = detail;
 }
 
-// A mark is the image's byte, as `marked` of the specs has it.
-fn put_halt(image: &mut [u8; IMAGE], direction: Direction, mark: u8)
-    ensures { image.new ≡ marked direction mark image.old }
+fn put_halt(image: &mut [u8; IMAGE], direction: Direction, halted: bool)
+    ensures { image.new ≡ marked direction (one halted) image.old }
 {
     match direction {
-        Direction::Out => image[OUTWARD] = mark,
-        Direction::In => image[INWARD] = mark,
+        Direction::Out => image[OUTWARD] = halted as u8,
+        Direction::In => image[INWARD] = halted as u8,
     }
 }
 
-fn put_halts(image: &mut [u8; IMAGE], mark: u8)
-    ensures { image.new ≡ set (set image.old 25 mark) 26 mark }
+fn put_halts(image: &mut [u8; IMAGE], halted: bool)
+    ensures { image.new ≡ set (set image.old 25 (one halted)) 26 (one halted) }
 {
-    image[OUTWARD] = mark;
-    image[INWARD] = mark;
+    image[OUTWARD] = halted as u8;
+    image[INWARD] = halted as u8;
 }
 
 fn drop_held(image: &mut [u8; IMAGE])
@@ -293,7 +307,7 @@ fn drop_held(image: &mut [u8; IMAGE])
 fn put_reset(image: &mut [u8; IMAGE])
     ensures { image.new ≡ put Change.Resets image.old }
 {
-    image[PHASE] = AWAITING;
+    image[PHASE] = Stage::Awaiting as u8;
     drop_held(image);
 }
 
@@ -301,7 +315,7 @@ fn put_reset(image: &mut [u8; IMAGE])
 fn put_calm(image: &mut [u8; IMAGE])
     ensures { image.new ≡ calm image.old }
 {
-    put_halts(image, 0);
+    put_halts(image, false);
     put_reset(image);
 }
 
@@ -309,7 +323,11 @@ fn put_calm(image: &mut [u8; IMAGE])
 fn put_begun(image: &mut [u8; IMAGE], direction: Direction, lun: Lun, tag: u32, length: u32)
     ensures { image.new ≡ put (Change.Begins direction lun tag length) image.old }
 {
-    put_phase(image, BUSY, direction.is_in() as u8 + 2 * u8::from(lun));
+    put_phase(
+        image,
+        Stage::Busy,
+        direction.is_in() as u8 + 2 * u8::from(lun),
+    );
     put_numbers(image, tag, length);
 }
 
@@ -325,9 +343,9 @@ fn put_finished(
     ensures { image.new ≡ put (Change.Finishes direction halts status tag residue) image.old }
 {
     put_numbers(image, tag, residue);
-    put_phase(image, STATUS_WAITING, status);
+    put_phase(image, Stage::StatusWaiting, status);
     if halts {
-        put_halt(image, direction, 1);
+        put_halt(image, direction, true);
     }
 }
 
@@ -341,7 +359,7 @@ pub fn make(image: &mut [u8; IMAGE], change: Change)
             image[CONFIGURED] = configured as u8;
             put_calm(image);
         }
-        Change::Awaits => image[PHASE] = AWAITING,
+        Change::Awaits => image[PHASE] = Stage::Awaiting as u8,
         Change::Resets => put_reset(image),
         Change::Drops => drop_held(image),
         Change::Begins {
@@ -358,14 +376,14 @@ pub fn make(image: &mut [u8; IMAGE], change: Change)
             residue,
         } => put_finished(image, direction, halts, status, tag, residue),
         Change::Stops => {
-            put_halts(image, 1);
-            put_phase(image, STOPPED, 0);
+            put_halts(image, true);
+            put_phase(image, Stage::Stopped, 0);
         }
         Change::Notes => {
-            put_phase(image, STOPPED, 1);
+            put_phase(image, Stage::Stopped, 1);
             drop_held(image);
         }
-        Change::Clears(direction) => put_halt(image, direction, 0),
+        Change::Clears(direction) => put_halt(image, direction, false),
         Change::Ends => put_calm(image),
     }
 }
