@@ -86,11 +86,14 @@ impl<'a> Bench<'a> {
         ensures { Does self.old (event_of 2 payload.now) result self.new }
     {
         let (setup, host) = payload.split_at(payload.len().min(SETUP));
-        // A name for each: tried in the list of arguments and by taking the struct apart, and the proof did not close.
-        let b = self.bridge;
-        let bytes = &mut *self.bytes;
-        let memory = &mut *self.memory;
-        let c = bridge::control(b, bytes, setup, host, memory, &mut self.reply);
+        let c = bridge::control(
+            self.bridge,
+            self.bytes,
+            setup,
+            host,
+            self.memory,
+            &mut self.reply,
+        );
         self.done(c.outcome, Handed::Reply(c.stands))
     }
 

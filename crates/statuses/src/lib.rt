@@ -17,7 +17,7 @@ fn put_long(room: &mut [u8], at: usize, n: u32)
     requires { at + 4 ≤ length room.old }
     ensures { room.new ≡ sets room.old at (bytes4 n) }
 {
-    room[at..at + 4].copy_from_slice(&n.to_le_bytes());
+    lent::copy(room, at, &lent::bytes_of(n));
 }
 
 // A status packet that waits on a pipe that is not halted, written at the front of the room.

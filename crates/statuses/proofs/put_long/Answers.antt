@@ -1,11 +1,11 @@
 -- The four bytes are set as a whole.
-use Rattle.std.proofs.Common.{rules, refl, sym, ◌∙◌, arith}
+use Rattle.std.proofs.Common.{refl, sym, ◌∙◌, arith, ap}
 use Rattle.std.proofs.lemmas.List.Edits.{sets-eq}
-use Rattle.std.proofs.lemmas.Slice.{put_mid-paste}
 use Rattle.rules.specs.Words.{bytes4}
+use Rattle.rules.proofs.Rows.{over_pastes}
 use Rattle.statuses.proofs.put_long.Goals as goal
 
 pub returns : goal.returns
-returns c =
-    put_mid-paste _ _ _ _ (bytes4 c.args.n) 4 (search rules) (omega arith) refl
-    ∙ sym (sets-eq (bytes4 c.args.n) c.args.room.now c.args.at (omega arith))
+returns c = rw (c.copy.ensures, c.bytes_of.ensures)
+    (over_pastes c.args.room.now c.args.at (bytes4 c.args.n) 4 (omega arith)
+    ∙ sym (sets-eq (bytes4 c.args.n) c.args.room.now c.args.at (omega arith)))
