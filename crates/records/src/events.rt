@@ -12,11 +12,15 @@ const HEADER: usize = 4;
 
 const SETUP: usize = 8;
 
+const REPLY: usize = 4096;
+
+const OPERATIONS: usize = 11;
+
 // The configuration byte that is the command signature.
 const SIGNATURE: usize = 0x04;
 
-// Two digits, 4,096 bytes of reply with a space before each, and the line's end.
-const LINE_MOST: usize = 12291;
+// Two digits, a reply with a space before each byte, and the line's end.
+const LINE_MOST: usize = 2 + 3 * REPLY + 1;
 
 // The bridge, what is lent to its events, and the rooms for a reply and for operations.
 #[derive(Drop)]
@@ -24,8 +28,8 @@ pub(crate) struct Bench<'a> {
     pub(crate) bridge: Bridge,
     bytes: &'a mut [u8; 16],
     memory: &'a mut [u8],
-    reply: [u8; 4096],
-    operations: [u16; 11],
+    reply: [u8; REPLY],
+    operations: [u16; OPERATIONS],
 }
 
 // What an event hands out: a reply, which stands in its room or in the memory, or operations, in theirs. No Option: a None would say that nothing is.
@@ -65,8 +69,8 @@ impl<'a> Bench<'a> {
             bridge,
             bytes,
             memory,
-            reply: [0; 4096],
-            operations: [0; 11],
+            reply: [0; REPLY],
+            operations: [0; OPERATIONS],
         }
     }
 
@@ -109,13 +113,13 @@ impl<'a> Bench<'a> {
         self.done(o, Handed::Operations)
     }
 
-    // A report holds direction, failed and the amount: six bytes, by the fact of its Record; as an array their number would be tested again.
-    fn report(&mut self, payload: &[u8]) -> Answered
-        requires { length payload.now ≡ 6 }
+    // A report holds direction, failed and the amount.
+    fn report(&mut self, payload: &[u8; 6]) -> Answered
         ensures { Does self.old (event_of 4 payload.now) result self.new }
     {
-        let amount = lent::long(payload[2], payload[3], payload[4], payload[5]);
-        let o = bridge::report(self.bridge, payload[0], payload[1], amount);
+        let [direction, failed, a, b, c, d] = *payload;
+        let amount = lent::long(a, b, c, d);
+        let o = bridge::report(self.bridge, direction, failed, amount);
         self.done(o, Handed::Reply(Stands::InRoom))
     }
 
@@ -126,7 +130,7 @@ impl<'a> Bench<'a> {
             Kind::BusReset => self.done(bridge::bus_reset(), Handed::Reply(Stands::InRoom)),
             Kind::Control => self.control(whole.payload),
             Kind::Packet => self.packet(whole.payload),
-            Kind::Report => self.report(whole.payload),
+            Kind::Report => self.report(whole.payload.try_into().unwrap()),
             Kind::Status => {
                 let o = bridge::status(self.bridge, &mut self.reply);
                 self.done(o, Handed::Reply(Stands::InRoom))
