@@ -11,7 +11,7 @@ ghost use Rattle.image.specs.Image.{bytes_of, is_marked, is_odd, phase_from, pag
 ghost use Rattle.image.specs.Stages.{stage_from, stage_number};
 
 use rules::addresses::StringIndex;
-use rules::fields::{FIRST_SETTING, FIRST_STRING};
+use rules::fields::{FIRST_SETTING, FIRST_STRING, SIGNATURE};
 use rules::{
     Bridge, Change, CommandPacket, Direction, Dock, Drives, Halts, Lun, PageSize, Phase, Seen,
 };
@@ -20,8 +20,6 @@ pub const IMAGE: usize = 62;
 
 // Behind the sixteen configuration bytes stand the tag, and L or the residue; a mark each for configured, bulk out halted and bulk in halted; the
 // phase; its direction and its LUN, its status, or its note; what is fixed at power-on, in one byte; and what is held: the bytes, and how many they are.
-const SIGNATURE: usize = 0x04;
-
 const TAG: usize = 16;
 
 const AMOUNT: usize = 20;

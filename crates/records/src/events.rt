@@ -5,6 +5,7 @@ use crate::lines::Printer;
 use crate::reading::{Head, Kind, Record};
 use bridge::Outcome;
 use descriptors::Part;
+use rules::fields::SIGNATURE;
 use rules::refusals::Refusal;
 use rules::{Bridge, Stands};
 
@@ -15,9 +16,6 @@ const SETUP: usize = 8;
 const REPLY: usize = 4096;
 
 const OPERATIONS: usize = 11;
-
-// The configuration byte that is the command signature.
-const SIGNATURE: usize = 0x04;
 
 // Two digits, a reply with a space before each byte, and the line's end.
 const LINE_MOST: usize = 2 + 3 * REPLY + 1;
