@@ -56,7 +56,7 @@ fn main(rt: HostRuntime) -> io::Result<()> {
         end: 0,
     };
     let mut last = false;
-    // A stream ends some time: so many turns are not used up.
+    // Counted, since a proved loop ends: `rt.forever()` would take a `Wait`, which is not allowed here. No stream uses so many turns up.
     for _ in 0..u64::MAX {
         let ran = records::run(
             bridge,
