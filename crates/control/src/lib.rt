@@ -67,8 +67,8 @@ fn replied(bytes: &[u8], reply: &mut [u8]) -> Outcome
     done(bytes.len() as u16, Change::Nothing)
 }
 
-// A request that is to be done and that no check refuses. As far as the rooms go: of one that is granted they hold it all. They are lent one by one,
-// as C lends them.
+// A request that is to be done and that no check refuses. As far as the rooms go: of one that is granted they hold it all. They are lent one by one, as
+// C lends them, and as `left_by` tells what is left of each.
 #[tactic(auto, unfolding(rules::specs::Words::over))]
 pub fn serve(
     r: Request,
@@ -116,7 +116,7 @@ fn seen(b: Bridge, bytes: &[u8; 16]) -> Seen
     }
 }
 
-// What is lent comes one by one: a public call, as it was.
+// What is lent comes one by one, as `left_where` tells what is left of each.
 pub fn control(
     b: Bridge,
     bytes: &mut [u8; 16],

@@ -317,7 +317,7 @@ fn put_calm(image: &mut [u8; IMAGE])
     put_reset(image);
 }
 
-// A command begins. Its numbers are stored last: behind them the phase's last store was shared with that of a stop, by a jump.
+// A command begins. Its numbers are stored last: in the other order the phase's last store is shared with that of a stop, by a jump.
 fn put_begun(image: &mut [u8; IMAGE], direction: Direction, lun: Lun, tag: u32, length: u32)
     ensures { image.new ≡ put (Change.Begins direction lun tag length) image.old }
 {

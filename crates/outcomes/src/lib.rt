@@ -43,12 +43,14 @@ pub fn bus_reset() -> Outcome
     done(0, Change::Sets(false))
 }
 
+// Public, with its row in PROMISES and its edits.
 pub fn is_stopped(phase: Phase) -> bool
     ensures { result ≡ is_stopped phase }
 {
     matches!(phase, Phase::Stopped { .. })
 }
 
+// This, `halted` and `fresh` are words of the rules, one expression each.
 fn in_phase(phase: Phase, b: Bridge) -> Bridge
     ensures { result ≡ in_phase phase b }
 {

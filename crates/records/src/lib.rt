@@ -23,7 +23,7 @@ pub struct Ran {
 }
 
 // Takes whole records from the front of a block, as long as there is room for the longest line. `last`: the stream ends with the block.
-// What is lent comes one by one: a public call, as it was.
+// What is lent comes one by one, as `run_left` tells what is left of each.
 pub fn run(
     b: Bridge,
     bytes: &mut [u8; 16],
