@@ -21,6 +21,7 @@ pub enum Direction {
 }
 
 impl Direction {
+    // Public, with its row in PROMISES and its edits.
     pub fn is_in(self) -> bool
         ensures { result ≡ inward self }
     {

@@ -1,4 +1,4 @@
--- Each shut_out bridge breaks its demand, at one event that is computed.
+-- Each shut-out bridge breaks its demand, at one event that is computed.
 use mathlib.Core.Path.{◌≡◌, refl, sym, ap, ◌∙◌}
 use mathlib.Core.Bool.{Bool, true, false, true≢false, false≢true}
 use mathlib.Core.List.{List, [], ◌∷◌}
