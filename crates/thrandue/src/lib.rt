@@ -33,7 +33,7 @@ fn leave(image: &mut [u8; IMAGE], o: Outcome) -> u32
     in_one_number(o.answer)
 }
 
-// What a request for a descriptor returns that is found.
+// What a request for a descriptor returns that is found, in one number, as the header has it.
 fn found(part: Part) -> u64
     ensures { result ≡ returns 0 part.length (InMemory part.start) }
 {
