@@ -50,11 +50,7 @@ impl Said {
     fn is_mismatch(self, length: u32, host: Direction) -> bool
         ensures { result ≡ mismatch length host (moved_number self.moved) self.amount }
     {
-        let astray = match self.moved {
-            Some(moved) => u8::from(moved) != u8::from(host),
-            None => true,
-        };
-        ((self.amount > 0) & astray) | (self.amount > length)
+        ((self.amount > 0) & (self.moved != Some(host))) | (self.amount > length)
     }
 
     // What it changes, on a command of this direction, tag and L.

@@ -14,7 +14,7 @@ pub mod refusals;
 use crate::addresses::{Address, StringIndex};
 
 // Where data goes, seen from the host. With L = 0 none goes, and Out stands for that.
-#[derive(Clone, Copy)]
+#[derive(Clone, Copy, PartialEq, Eq)]
 pub enum Direction {
     Out = 2,
     In = 1,
