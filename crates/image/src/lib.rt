@@ -3,11 +3,11 @@
 #![tactic(auto)]
 
 ghost use Rattle.std.specs.Prelude.{◌≡◌, ◌+◌, ◌≤◌, [], cond, set, take, drop};
-ghost use Rattle.rules.specs.Words.{long, byte, one};
+ghost use Rattle.rules.specs.Words.{long, one};
 ghost use Rattle.rules.specs.Held.{starting, by_default};
 ghost use Rattle.rules.specs.Answers.{seen_of};
 ghost use Rattle.rules.specs.Packets.{signature_of};
-ghost use Rattle.image.specs.Image.{bytes_of, is_marked, is_odd, phase_from, page_code, page_from, dock_byte, dock_of, decode, world_of, held_in, powered, numbered, phased, marked, dropped, calm, put, added};
+ghost use Rattle.image.specs.Image.{bytes_of, is_odd, phase_from, page_code, page_from, dock_byte, dock_of, decode, world_of, held_in, powered, numbered, phased, marked, dropped, calm, put, added};
 ghost use Rattle.image.specs.Stages.{stage_from, stage_number};
 
 use rules::addresses::StringIndex;
@@ -140,17 +140,14 @@ pub fn power_on_with(image: &mut [u8; IMAGE], dock: Dock, settings: &[u8; 14])
     lent::copy(image, FIRST_SETTING, settings);
 }
 
-// Direction and LUN are read beforehand: then no arm does more than put a phase together, and none costs a jump.
 fn phase_from(kind: u8, detail: u8, tag: u32, amount: u32) -> Phase
     ensures { result ≡ phase_from kind detail tag amount }
 {
-    let direction = chosen(detail, Direction::Out, Direction::In);
-    let lun = chosen(detail / 2, Lun::Lun0, Lun::Lun1);
     match Stage::from(kind) {
         Stage::Awaiting => Phase::Awaiting,
         Stage::Busy => Phase::Busy {
-            direction,
-            lun,
+            direction: chosen(detail, Direction::Out, Direction::In),
+            lun: chosen(detail / 2, Lun::Lun0, Lun::Lun1),
             tag,
             length: amount,
         },
@@ -178,12 +175,6 @@ pub fn signature_of(image: &[u8; IMAGE]) -> u8
     image[SIGNATURE]
 }
 
-fn is_configured(image: &[u8; IMAGE]) -> bool
-    ensures { result ≡ is_marked (byte 24 image.now) }
-{
-    image[CONFIGURED] != 0
-}
-
 fn dock_of(image: &[u8; IMAGE]) -> Dock
     ensures { result ≡ dock_of image.now }
 {
@@ -202,15 +193,15 @@ pub fn drives_of(image: &[u8; IMAGE]) -> Drives
     dock_of(image).drives
 }
 
-// What a control request is judged by, read from three bytes: a bridge by value, as `control` has it, would be made of them all.
+// What a control request is judged by. The compiler makes no more of the bridge than this.
 pub fn seen(image: &[u8; IMAGE]) -> Seen
     ensures { result ≡ seen_of (world_of image.now []) }
 {
-    let dock = dock_of(image);
+    let b = load(image);
     Seen {
-        configured: is_configured(image),
-        bus_powered: dock.bus_powered,
-        page: dock.page,
+        configured: b.configured,
+        bus_powered: b.dock.bus_powered,
+        page: b.dock.page,
         first_string: StringIndex(image[FIRST_STRING]),
     }
 }
@@ -223,7 +214,7 @@ pub fn load(image: &[u8; IMAGE]) -> Bridge
     let amount = number_at(image, AMOUNT);
     Bridge {
         dock: dock_of(image),
-        configured: is_configured(image),
+        configured: image[CONFIGURED] != 0,
         phase: phase_from(image[PHASE], image[DETAIL], tag, amount),
         halts: Halts {
             outward: image[OUTWARD] != 0,
