@@ -1,13 +1,12 @@
 // Control requests: those that are granted are done, and descriptors are told from where they stand.
 #![tactic(auto)]
 
-ghost use Rattle.std.specs.Prelude.{◌≡◌, ◌<◌, ◌^◌, cond, [], length, take, drop, Ok};
+ghost use Rattle.std.specs.Prelude.{◌≡◌, ◌<◌, ◌^◌, cond, length, take, drop, Ok};
 ghost use Rattle.outcomes.specs.Outcomes.{outcome, left_by};
 ghost use Rattle.control.specs.Standing.{left_where};
 ghost use Rattle.rules.specs.Words.{over, one};
 ghost use Rattle.rules.specs.Held.{world};
 ghost use Rattle.rules.specs.Requests.{Known, in_memory, halt_of, bytes_after, memory_after};
-ghost use Rattle.rules.specs.Answers.{seen_of};
 ghost use Rattle.rules.specs.Step.{Control};
 ghost use Rattle.rules.specs.Promise.{leaves, served};
 
@@ -17,7 +16,7 @@ use outcomes::{Outcome, done, refused};
 use requests::Granted;
 use rules::addresses::StringIndex;
 use rules::fields::{BULK_OUT, FIRST_STRING, MEMORY};
-use rules::{Bridge, Change, Request, Seen, Setup, Stands};
+use rules::{Bridge, Change, Request, Setup, Stands};
 
 // The outcome of a control request, and where its reply stands.
 #[derive(Clone, Copy)]
@@ -105,17 +104,6 @@ pub fn serve(
     }
 }
 
-fn seen(b: Bridge, bytes: &[u8; 16]) -> Seen
-    ensures { result ≡ seen_of (world b bytes.now []) }
-{
-    Seen {
-        configured: b.configured,
-        bus_powered: b.dock.bus_powered,
-        page: b.dock.page,
-        first_string: StringIndex(bytes[FIRST_STRING]),
-    }
-}
-
 // What is lent comes one by one, as `left_where` tells what is left of each.
 pub fn control(
     b: Bridge,
@@ -127,7 +115,8 @@ pub fn control(
 ) -> ControlOutcome
     ensures { left_where result bytes.new memory.new reply.new ≡ leaves (world b bytes.old memory.old) (Control setup.now host.now) reply.old }
 {
-    match requests::judge(seen(b, bytes), memory, setup, host.len(), reply.len()) {
+    let seen = b.seen(StringIndex(bytes[FIRST_STRING]));
+    match requests::judge(seen, memory, setup, host.len(), reply.len()) {
         Err(refusal) => ControlOutcome {
             outcome: refused(refusal),
             stands: Stands::InRoom,

@@ -197,13 +197,7 @@ pub fn drives_of(image: &[u8; IMAGE]) -> Drives
 pub fn seen(image: &[u8; IMAGE]) -> Seen
     ensures { result ≡ seen_of (world_of image.now []) }
 {
-    let b = load(image);
-    Seen {
-        configured: b.configured,
-        bus_powered: b.dock.bus_powered,
-        page: b.dock.page,
-        first_string: StringIndex(image[FIRST_STRING]),
-    }
+    load(image).seen(StringIndex(image[FIRST_STRING]))
 }
 
 // The state that the image stands for.

@@ -3,6 +3,7 @@ use mathlib.Core.Path.{◌≡◌, refl, sym, ◌∙◌}
 use Rattle.rules.specs.OneOutcome.{OneOutcome}
 use Rattle.rules.proofs.Bridge.configuration as BridgeConfiguration
 use Rattle.rules.proofs.Bridge.power_on as BridgePowerOn
+use Rattle.rules.proofs.Bridge.seen as BridgeSeen
 use Rattle.rules.proofs.power_on_bytes as PowerOnBytes
 use Rattle.rules.proofs.U8FromDirection.from as U8FromDirection
 use Rattle.rules.proofs.Direction.is_in as DirectionIsIn
@@ -22,6 +23,9 @@ only p q = p ∙ sym q
 
 pub Bridge::configuration : OneOutcome BridgeConfiguration.Kinds.ps BridgeConfiguration.Kinds.r BridgeConfiguration.Reads.Post
 Bridge::configuration κs a r r' left left' p q = (only p q, refl)
+
+pub Bridge::seen : OneOutcome BridgeSeen.Kinds.ps BridgeSeen.Kinds.r BridgeSeen.Reads.Post
+Bridge::seen κs a r r' left left' p q = (only p q, refl)
 
 pub Bridge::power_on : OneOutcome BridgePowerOn.Kinds.ps BridgePowerOn.Kinds.r BridgePowerOn.Reads.Post
 Bridge::power_on κs a r r' left left' p q = (only p q, refl)

@@ -168,6 +168,18 @@ impl Bridge {
         if self.configured { 2 } else { 0 }
     }
 
+    // What a control request is judged by, with configuration byte 0x0E.
+    pub fn seen(self, first_string: StringIndex) -> Seen
+        ensures { result ≡ record { configured = self.configured; bus_powered = self.dock.bus_powered; page = self.dock.page; first_string = first_string } }
+    {
+        Seen {
+            configured: self.configured,
+            bus_powered: self.dock.bus_powered,
+            page: self.dock.page,
+            first_string,
+        }
+    }
+
     pub fn power_on(dock: Dock) -> Self
         ensures { result ≡ power_on dock }
     {
