@@ -1,5 +1,5 @@
 // The image of a bridge with its configuration bytes and what it holds of a packet in bursts: sixty-two bytes, read, and changed in place. They are C's,
-// who lends them as an array: so functions, and no methods of a struct.
+// who lends them as an array: so functions, and no methods of a struct; those of a trait over the array would have each contract twice.
 #![tactic(auto)]
 
 ghost use Rattle.std.specs.Prelude.{◌≡◌, ◌+◌, ◌≤◌, [], cond, set, take, drop};
@@ -83,26 +83,36 @@ impl Fragments {
     }
 }
 
-// The image's own code of a page size, read and written once: as a type with two Froms it would be no plainer.
-fn page_code(page: PageSize) -> u8
-    ensures { result ≡ page_code page }
-{
-    match page {
-        PageSize::Of32 => 0,
-        PageSize::Of64 => 1,
-        PageSize::Of128 => 2,
-        PageSize::Of256 => 3,
+// The image's own code of a page size. Its field has a name, since `.0` is for an index and an address alone (tests/apart).
+#[derive(Clone, Copy)]
+struct PageCode {
+    value: u8,
+}
+
+impl From<PageSize> for PageCode {
+    fn from(page: PageSize) -> PageCode
+        ensures { result.value ≡ page_code page }
+    {
+        let value = match page {
+            PageSize::Of32 => 0,
+            PageSize::Of64 => 1,
+            PageSize::Of128 => 2,
+            PageSize::Of256 => 3,
+        };
+        PageCode { value }
     }
 }
 
-fn page_from(code: u8) -> PageSize
-    ensures { result ≡ page_from code }
-{
-    match code {
-        0 => PageSize::Of32,
-        1 => PageSize::Of64,
-        2 => PageSize::Of128,
-        _ => PageSize::Of256,
+impl From<PageCode> for PageSize {
+    fn from(code: PageCode) -> PageSize
+        ensures { result ≡ page_from code.value }
+    {
+        match code.value {
+            0 => PageSize::Of32,
+            1 => PageSize::Of64,
+            2 => PageSize::Of128,
+            _ => PageSize::Of256,
+        }
     }
 }
 
@@ -118,7 +128,7 @@ fn chosen<T: Copy>(bits: u8, zero: T, one: T) -> T
 fn dock_byte(dock: Dock) -> u8
     ensures { result ≡ dock_byte dock }
 {
-    page_code(dock.page) + 4 * dock.bus_powered as u8 + 8 * dock.drives.max_lun()
+    PageCode::from(dock.page).value + 4 * dock.bus_powered as u8 + 8 * dock.drives.max_lun()
 }
 
 // Whatever it held, an image is that of a dock's bridge at power-on.
@@ -181,7 +191,7 @@ fn dock_of(image: &[u8; IMAGE]) -> Dock
     let fixed = image[DOCK];
     Dock {
         bus_powered: fixed / 4 % 2 == 1,
-        page: page_from(fixed % 4),
+        page: PageSize::from(PageCode { value: fixed % 4 }),
         drives: chosen(fixed / 8, Drives::One, Drives::Two),
     }
 }
