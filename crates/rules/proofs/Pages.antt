@@ -59,12 +59,6 @@ some_bytes Of64 = omega arith
 some_bytes Of128 = omega arith
 some_bytes Of256 = omega arith
 
-pub most_bytes : (page : PageSize) → page_bytes page ≤ 256
-most_bytes Of32 = omega arith
-most_bytes Of64 = omega arith
-most_bytes Of128 = omega arith
-most_bytes Of256 = omega arith
-
 -- each is a multiple of eight
 pub eights_in : (page : PageSize) → 8 ∣ page_bytes page
 eights_in Of32 = dvd_of_mod-eq-zero 8 refl
