@@ -2,7 +2,7 @@
 use mathlib.Core.Path.{◌≡◌, refl, ap, ◌∙◌}
 use mathlib.Core.Bool.{Bool, true, false, not}
 use mathlib.Core.List.{List}
-use Prim.Native.Nat.{ℕ, suc, ◌+◌, ◌-◌, ◌/◌, ◌^◌, ◌≤◌, ◌<◌}
+use Prim.Native.Nat.{ℕ, suc, ◌+◌, ◌-◌, ◌/◌, ◌^◌, ◌<◌}
 use native.Mathlib.Nat.{div-div-eq-div-mul, pow-suc}
 use native.Mathlib.Omega.{arith}
 use lib.Count.{ones, ones_step}
@@ -12,6 +12,7 @@ use mir.Val.{bool_byte}
 use borrow.Author.Tests.{eqb-true, eqb-false}
 use Rattle.lent.proofs.Laws.{bool_byte_lem}
 use Rattle.rules.proofs.Demands.Operations.{counted}
+use Rattle.rules.proofs.Demands.Makers.{codes-length, operations_count}
 use Rattle.rules.specs.declared.Direction.{Direction}
 use Rattle.rules.specs.declared.Lun.{Lun}
 use Rattle.rules.specs.Words.{byte, bit, bit_of, one}
@@ -54,12 +55,7 @@ module _ (lun : Lun) (block : List ℕ) (l : ℕ) (d : Direction) (h : byte 3 bl
       rw (bool_byte_lem (ltb 0 l))
       (omega (arith, ((counted lun block l d).1 (omega arith)).0, one_not (bit_of 2 (action block)) (omega arith), ones-tally block h))
 
--- "At most 11 operations"
-pub most : (lun : Lun) (block : List ℕ) (l : ℕ) (d : Direction) → length (operations_of lun block l d) ≤ 11
-most lun block l d = go (bit 0 (action block)) refl
-  where
-    go : (t : Bool) → bit 0 (action block) ≡ t → length (operations_of lun block l d) ≤ 11
-    go true e = omega (arith, ((counted lun block l d).0 (eqb-true _ 1 e)).1)
-    go false e = let other : bit_of 0 (action block) ≡ 1 → ⊥ = eqb-false _ 1 e in ((counted lun block l d).1 (omega arith)).1
+pub ruleset counts = (operations_count, count_read, count_write)
 
-pub ruleset counts = (most, count_read, count_write)
+-- how many numbers a block's operations are
+pub ruleset numbers = (operations_count, codes-length)

@@ -8,13 +8,10 @@ use Rattle.rules.specs.Words.{laid}
 use Rattle.rules.specs.Operations.{Operation, code, codes, writes, reads}
 use Rattle.passthrough.specs.declared.blocks.Access.{Access}
 use Rattle.passthrough.specs.declared.blocks.Access.TheVariants.{Write, Read}
+use Rattle.rules.proofs.Demands.Makers.{codes-length}
 use Rattle.passthrough.specs.declared.rows.Row.{Row}
 use Rattle.passthrough.specs.Blocks.{accesses}
 use Rattle.passthrough.specs.Rows.{after, rising}
-
-pub length_codes : (os : List Operation) → length (codes os) ≡ length os
-length_codes [] = refl
-length_codes (o ∷ os) = ap suc (length_codes os)
 
 sets_append : (xs ys : List Operation) (l : List ℕ) (i : ℕ) → sets l i (codes (xs ++ ys)) ≡ sets (sets l i (codes xs)) (i + length xs) (codes ys)
 sets_append [] ys l i = rw add-zero
@@ -45,7 +42,7 @@ at_after os row = refl
 -- what stands behind nothing is laid at the front of the room
 pub after_laid : (os : List Operation) (row : Row) → row.at ≡ 0 → length os ≤ length row.room.now → (after os row).room.now ≡ laid (codes os) row.room.now
 unfolding after
-after_laid os row none h = rw (none, sets-eq (codes os) row.room.now 0 (rw (length_codes os, zero-add) h), zero-add)
+after_laid os row none h = rw (none, sets-eq (codes os) row.room.now 0 (rw (codes-length os, zero-add) h), zero-add)
 
 -- what a row needs that grows, and one that is made whole
 pub ruleset rows = (after_after, after_none, room_after, at_after, length-append)

@@ -20,7 +20,7 @@ pub enum Unmade {
 
 // The operations of a recognised block with room enough go into the lent row, and how many they are is handed out. `expected` is the packet's
 // length L, `size` its block length, and `lun` the drive that it is for: no more of a packet is told than the rules judge a block by, so one by one.
-#[tactic(auto, using(crate::proofs::Counts::most, crate::proofs::Growing::length_codes))]
+#[tactic(auto, using(crate::proofs::Counts::numbers))]
 pub fn judge(
     block: &[u8],
     size: u8,
