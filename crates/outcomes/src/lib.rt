@@ -36,7 +36,7 @@ pub fn done(count: u16, change: Change) -> Outcome
     }
 }
 
-#[tactic(auto, using(rules::proofs::Promises::reset_done))]
+#[tactic(auto, unfolding(rules::specs::Step::step, rules::specs::Step::change))]
 pub fn bus_reset() -> Outcome
     ensures { (b : Bridge) → Answers b (λ n. BusReset) [] result [] }
 {

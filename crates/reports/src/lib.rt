@@ -54,6 +54,7 @@ impl Said {
     }
 
     // What it changes, on a command of this direction, tag and L.
+    #[tactic(auto, using(rules::proofs::Promises::amount_fits))]
     fn finish(self, host: Direction, tag: u32, length: u32) -> Change
         ensures { result ≡ finished (mismatch length host (moved_number self.moved) self.amount) host tag length (one self.failed) self.amount }
     {
@@ -76,6 +77,7 @@ impl Said {
     }
 }
 
+#[tactic(auto, using(outcomes::proofs::Phases::not_busy), unfolding(rules::specs::Answers::report_answer, rules::specs::Step::step, rules::specs::Step::change))]
 pub fn report(b: Bridge, direction: u8, failed: u8, amount: u32) -> Outcome
     ensures { Answers b (λ n. Report direction failed amount) [] result [] }
 {

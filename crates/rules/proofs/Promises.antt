@@ -1,4 +1,4 @@
--- Laws of the promise: what each event leaves that is refused, and that is done.
+-- Laws of the promise: what a control request and a packet leave that are refused, and that are done; and of a report that is no mismatch.
 use mathlib.Core.Path.{◌≡◌, refl, ◌∙◌}
 use mathlib.Core.Bool.{Bool, true, false, cond, not, ◌&&◌, ◌||◌, true≢false}
 use mathlib.Core.List.{List, []}
@@ -8,10 +8,8 @@ use lib.Dec.{eqb, ltb}
 use borrow.Author.Tests.{ltb-false, ne_eqb, not-true}
 use Rattle.rules.specs.declared.Bridge.{Bridge}
 use Rattle.rules.specs.declared.Change.{Change}
-use Rattle.rules.specs.declared.Change.TheVariants.{Nothing, Sets, Awaits, Stops}
+use Rattle.rules.specs.declared.Change.TheVariants.{Nothing, Stops}
 use Rattle.rules.specs.declared.Direction.{Direction}
-use Rattle.rules.specs.declared.Phase.{Phase}
-use Rattle.rules.specs.declared.Phase.TheVariants.{StatusWaiting}
 use Rattle.rules.specs.declared.Request.{Request}
 use Rattle.rules.specs.declared.Setup.{Setup}
 use Rattle.rules.specs.declared.Stands.TheVariants.{InMemory}
@@ -19,11 +17,11 @@ use Rattle.rules.specs.Words.{laid, first}
 use Rattle.rules.specs.Held.{World, world}
 use Rattle.rules.specs.Descriptors.{first_string, place_in}
 use Rattle.rules.specs.Requests.{Known, Describes, setup_of, request_of, reply_to}
-use Rattle.rules.specs.Packets.{command_of, recognises, command_taken, status_packet}
-use Rattle.rules.specs.Reports.{host_number, mismatch, report_taken}
-use Rattle.rules.specs.Answers.{seen_of, request_answer, unawaited_checks, awaited_checks, packet_answer, report_answer, status_answer}
+use Rattle.rules.specs.Packets.{command_of, recognises, command_taken}
+use Rattle.rules.specs.Reports.{host_number, mismatch}
+use Rattle.rules.specs.Answers.{seen_of, request_answer, unawaited_checks, awaited_checks, packet_answer}
 use Rattle.rules.specs.Step.{Event, BusReset, Control, Packet, Report, StatusRequest, Burst, EndMark, Outcome, operations_for, answer, done, damaged, change, step}
-use Rattle.rules.specs.Promise.{left_at, left, handed_out, leaves, Told, ToldOf, served}
+use Rattle.rules.specs.Promise.{left_at, left, handed_out, leaves, ToldOf, served}
 use Rattle.rules.proofs.Checks.{answer_has, first_append, in_room}
 use Rattle.rules.proofs.Rows.{over-laid}
 use Rattle.rules.proofs.Replies.{reply_count, reply_fits}
@@ -49,10 +47,6 @@ refusal w event room n a d =
     let e : Event = event (length room) in
     let z : handed_out e (step w e) ≡ [] = nothing e (step w e) (rw (a, d)) (rw (a, d)) in
     rw (z, in_room w e (rw a d), a, d)
-
-pub reset_done : (b : Bridge) → Told b (λ n. BusReset) [] 0 0 (Sets false) []
-unfolding step change
-reset_done b bytes memory = refl
 
 module _ (w : World) (setup host room : List ℕ) where
   abbrev pub control_answer : ℕ
@@ -102,25 +96,6 @@ module _ (b : Bridge) (signature : ℕ) (p room : List ℕ) where
       → ToldOf b signature (Packet p) room 0 needed (command_taken (recognises signature p) (command_of p)) (laid (operations_for signature p) room)
   unfolding step change
   packet_done a bytes memory h = rw (h, a)
-
-module _ (b : Bridge) (direction failed amount : ℕ) where
-  pub report_refused : (n : ℕ) → report_answer b direction failed amount ≡ n → done n ≡ false
-      → Told b (λ k. Report direction failed amount) [] n 0 (refused n) []
-  report_refused n a d bytes memory = refusal (world b bytes memory) (λ k. Report direction failed amount) [] n a d
-
-  pub report_done : (p : Phase) → b.phase ≡ p → report_answer b direction failed amount ≡ 0
-      → Told b (λ k. Report direction failed amount) [] 0 0 (report_taken direction failed amount p) []
-  unfolding step change
-  report_done p h a bytes memory = rw (a, h)
-
-module _ (b : Bridge) (room : List ℕ) where
-  pub status_refused : (n : ℕ) → status_answer b (length room) ≡ n → done n ≡ false → Told b StatusRequest room n 0 (refused n) room
-  status_refused n a d bytes memory = refusal (world b bytes memory) StatusRequest room n a d
-
-  pub status_done : (tag residue status : ℕ) → b.phase ≡ StatusWaiting tag residue status → status_answer b (length room) ≡ 0
-      → Told b StatusRequest room 0 13 Awaits (laid (status_packet tag residue status) room)
-  unfolding step change
-  status_done tag residue status h a bytes memory = rw (a, h)
 
 -- "Else status is failed and residue is L minus amount": which is then at most L
 pub amount_fits : (l : ℕ) (host : Direction) (direction amount : ℕ) → mismatch l host direction amount ≡ false → amount ≤ l

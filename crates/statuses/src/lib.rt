@@ -11,6 +11,7 @@ use rules::refusals::Refusal;
 use rules::{Bridge, Change, Phase, StatusPacket};
 
 // A status packet that waits on a pipe that is not halted, written at the front of the room.
+#[tactic(auto, using(crate::proofs::Rows::packet_laid), unfolding(rules::specs::Answers::status_answer, rules::specs::Step::step, rules::specs::Step::change))]
 fn handed_out(p: StatusPacket, reply: &mut [u8]) -> Outcome
     ensures { (b : Bridge) → Waits b p → Answers b StatusRequest reply.old result reply.new }
 {
@@ -24,6 +25,7 @@ fn handed_out(p: StatusPacket, reply: &mut [u8]) -> Outcome
     done(StatusPacket::LENGTH as u16, Change::Awaits)
 }
 
+#[tactic(auto, using(outcomes::proofs::Phases::not_status_waiting), unfolding(rules::specs::Answers::status_answer, rules::specs::Step::step, rules::specs::Step::change))]
 pub fn status(b: Bridge, reply: &mut [u8]) -> Outcome
     ensures { Answers b StatusRequest reply.old result reply.new }
 {
