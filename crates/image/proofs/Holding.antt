@@ -56,6 +56,11 @@ held_counted s h = go (leb (length s) 31) refl
         let more = leb-false (length s) 31 e in
         ap length (held_too_long s (omega arith)) ∙ omega arith
 
+-- as many bytes are counted as there are in what is held
+pub counted_of_image : (image : List ℕ) → length image ≡ 62 → length (take (byte 61 image) (drop 30 image)) ≡ length (kept (take (byte 61 image) (drop 30 image)))
+counted_of_image image h =
+    sym (held_counted (take (byte 61 image) (drop 30 image)) (omega (arith, length-take (byte 61 image) (drop 30 image), length-drop 30 image)))
+
 take_again : (n : ℕ) (s : List ℕ) → take (length (take n s)) s ≡ take n s
 take_again zero s = refl
 take_again (suc n) [] = refl

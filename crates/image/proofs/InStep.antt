@@ -16,13 +16,13 @@ use Rattle.rules.specs.declared.Lun.TheVariants.{Lun0, Lun1}
 use Rattle.rules.specs.declared.PageSize.{PageSize}
 use Rattle.rules.specs.declared.PageSize.TheVariants.{Of32, Of64, Of128, Of256}
 use Rattle.rules.specs.Words.{over}
-use Rattle.rules.specs.Held.{Start, world, holding, docked, power_on, power_on_bytes, start_bytes}
+use Rattle.rules.specs.Held.{Start, world, holding, docked, power_on, power_on_bytes, start_bytes, starting, by_default}
 use Rattle.rules.specs.Changes.{made, drops}
 use Rattle.rules.specs.Bursts.{kept}
 use Rattle.rules.specs.Demands.Sizes.{Sized}
 use Rattle.rules.proofs.Rows.{over-length, four_bytes}
 use Rattle.rules.proofs.Demands.Boundary.{none_given}
-use Rattle.image.proofs.Rows.{row, row-set, by_bytes}
+use Rattle.image.proofs.Rows.{row, row-set, by_bytes, over-front}
 use Rattle.image.specs.Image.{bytes_of, decode, held_of, world_of, dock_byte, powered, dropped, put, PowersOn, InStep}
 
 -- a dock's image at power-on, with any sixteen bytes, stands for its world
@@ -59,6 +59,15 @@ powered-length start =
     let bytes : List ℕ = start_bytes start in
     length-append (bytes ++ replicate 13 0) (dock_byte start.dock ∷ replicate 32 0)
     ∙ omega (arith, length-append bytes (replicate 13 0), over-length power_on_bytes 2 start.settings)
+
+-- settings, copied over the defaults
+pub settled : (dock : Dock) (settings : List ℕ) → length settings ≡ 14 → over (powered (by_default dock)) 2 settings ≡ powered (starting dock settings)
+unfolding over
+settled dock settings h =
+    let front : List ℕ = power_on_bytes ++ replicate 13 0 in
+    let rest : List ℕ = dock_byte dock ∷ replicate 32 0 in
+    over-front front rest 2 settings (omega arith)
+    ∙ ap (λ (l : List ℕ). l ++ rest) (over-front power_on_bytes (replicate 13 0) 2 settings (omega arith))
 
 -- ---- a change, put into an image whose configuration bytes were written
 

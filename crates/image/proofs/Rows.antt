@@ -3,8 +3,8 @@ use mathlib.Core.Path.{◌≡◌, refl, sym, ap, subst}
 use mathlib.Core.List.{List, [], ◌∷◌, ◌++◌}
 use Prim.Native.Nat.{ℕ, zero, suc, ◌+◌, ◌≤◌}
 use native.Mathlib.Omega.{arith}
-use lib.ListN.{length, set, take, drop, drop_of_length-le}
-use lib.Seq.{drop-cons, get_or-set_other}
+use lib.ListN.{length, set, take, drop, drop_of_length-le, length-drop}
+use lib.Seq.{drop-cons, get_or-set_other, take_all}
 use Rattle.rules.specs.Words.{byte, over}
 
 abbrev pub row : ℕ → ℕ → List ℕ → List ℕ
@@ -39,3 +39,7 @@ unfolding over
 copied_back image tail n h long =
     by_bytes 62 image h (λ i. over (set i 61 n) 30 (take 31 tail) ≡ set (over i 30 tail) 61 n)
     (by_bytes 32 tail long (λ t. over (set (row 0 62 image) 61 n) 30 (take 31 t) ≡ set (over (row 0 62 image) 30 t) 61 n) refl)
+
+-- the last 32 bytes, all of them
+pub all_of_tail : (image : List ℕ) → length image ≡ 62 → take 32 (drop 30 image) ≡ drop 30 image
+all_of_tail image h = take_all 32 (drop 30 image) (omega (arith, length-drop 30 image))

@@ -142,6 +142,7 @@ pub fn power_on(image: &mut [u8; IMAGE], dock: Dock)
 }
 
 // .. with settings, the bytes for addresses 2 to F.
+#[tactic(auto, using(crate::proofs::InStep::settled))]
 pub fn power_on_with(image: &mut [u8; IMAGE], dock: Dock, settings: &[u8; 14])
     ensures { image.new ≡ powered (starting dock settings.now) }
 {
@@ -227,6 +228,7 @@ pub fn load(image: &[u8; IMAGE]) -> Bridge
     }
 }
 
+#[tactic(auto, using(crate::proofs::Rows::all_of_tail))]
 fn held_bytes(image: &[u8; IMAGE]) -> [u8; TOO_LONG]
     ensures { result ≡ drop 30 image.now }
 {
@@ -234,6 +236,7 @@ fn held_bytes(image: &[u8; IMAGE]) -> [u8; TOO_LONG]
 }
 
 // What is held, by value: so it can be judged while the image is changed.
+#[tactic(auto, using(crate::proofs::Holding::counted_of_image))]
 pub fn held(image: &[u8; IMAGE]) -> Fragments
     ensures { result ≡ held_in image.now }
 {
@@ -244,6 +247,7 @@ pub fn held(image: &[u8; IMAGE]) -> Fragments
 
 // A burst is held behind what is held; where that is more than a packet, that it is too long. No more of it is looked at than makes it so. The count is
 // stored before the bytes are copied: behind that it would be kept in registers meanwhile.
+#[tactic(auto, using(crate::proofs::Holding::too_much, crate::proofs::Holding::fits))]
 pub fn hold(image: &mut [u8; IMAGE], burst: &[u8])
     ensures { image.new ≡ added burst.now image.old }
 {
