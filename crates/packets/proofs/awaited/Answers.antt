@@ -1,10 +1,6 @@
 -- Each outcome is what the rules promise: of a packet that is damaged, and one whose block is judged.
-use Rattle.std.proofs.Common.{arith}
 use Rattle.packets.proofs.Commands.{thirty_one, block_part, undamaged, damaged, taken_so}
 use Rattle.packets.proofs.awaited.Goals as goal
-
-pub slice_bounds-judge-end : goal.slice_bounds-judge-end
-slice_bounds-judge-end c = omega (arith, thirty_one c.args.packet.now (undamaged _ _ _ c.in-Ok.ensures).valid)
 
 pub returns-in-Ok : goal.returns-in-Ok
 returns-in-Ok c =
