@@ -121,6 +121,7 @@ impl<'a> Bench<'a> {
         self.done(o, Handed::Reply(Stands::InRoom))
     }
 
+    #[tactic(auto, using(crate::proofs::Printing::report_six))]
     fn event(&mut self, whole: Record) -> Answered
         ensures { Does self.old (event_of (kind_number whole.entry.kind) whole.entry.payload.now) result self.new }
     {
@@ -154,6 +155,7 @@ impl<'a> Bench<'a> {
     }
 
     // The first record of a block, where it is whole and there is room for its line.
+    #[tactic(auto, using(crate::proofs::Turning::no_room, crate::proofs::Turning::part_taken, crate::proofs::Turning::torn_taken, crate::proofs::Turning::whole_taken))]
     pub(crate) fn turn(&mut self, input: &[u8], last: bool, printer: &mut Printer) -> Turned
         ensures { Turns last self.old printer.old input.now result self.new printer.new }
     {

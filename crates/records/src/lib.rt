@@ -24,6 +24,7 @@ pub struct Ran {
 
 // Takes whole records from the front of a block, as long as there is room for the longest line. `last`: the stream ends with the block.
 // What is lent comes one by one, as `run_left` tells what is left of each.
+#[tactic(auto, using(crate::proofs::Running::starts, crate::proofs::Running::goes))]
 pub fn run(
     b: Bridge,
     bytes: &mut [u8; 16],

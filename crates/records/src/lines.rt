@@ -97,7 +97,7 @@ impl<'a> Printer<'a> {
         self.at += 1;
     }
 
-    #[tactic(auto, using(crate::proofs::Putting::put_text))]
+    #[tactic(auto, using(rules::proofs::Rows::copied_in))]
     pub(crate) fn put_text(&mut self, text: &[u8])
         requires { Room self.old text.now }
         ensures { Puts self.old text.now self.new }
@@ -135,6 +135,7 @@ impl<'a> Printer<'a> {
     }
 
     // The line of an answer, with as much of `out` as was handed out.
+    #[tactic(auto, using(crate::proofs::Putting::line_left))]
     pub(crate) fn put_line<T: Hex>(&mut self, answer: Result<u16, Refusal>, out: &[T])
         requires there { count_of answer ≤ length out.now }
         requires room { Room self.old (line_of T.hex answer out.now) }

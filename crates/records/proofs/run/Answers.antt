@@ -1,14 +1,8 @@
--- A turn takes the first record of what is left, and at the end nothing is left to take.
+-- At the end nothing is left to take.
 use Rattle.std.proofs.Common.{rules}
-use Rattle.records.proofs.Running.{starts, goes, ends}
+use Rattle.records.proofs.Running.{ends}
 use Rattle.records.proofs.run.Goals as goal
 use Rattle.records.proofs.run.Goals.{in-Torn, in-Rests}
-
-pub loop-n-init : goal.loop-n-init
-loop-n-init c = starts c.args.last c.args.input.now c.new-bench.result c.new-printer.result
-
-pub loop-n-preserved : goal.loop-n-preserved
-loop-n-preserved c = goes c.args.last c.args.input.now c.new-bench.result c.new-printer.result c.loop-n.invariant c.turn.ensures c.in-Taken.is
 
 pub returns-clause-output_after : goal.returns-clause-output_after
 returns-clause-output_after c =

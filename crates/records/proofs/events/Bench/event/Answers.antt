@@ -2,11 +2,8 @@
 use Rattle.std.proofs.Common.{arith, ◌≡◌, length, refl}
 use Rattle.rules.specs.Step.{BusReset, StatusRequest}
 use Rattle.records.specs.Records.{event_of}
-use Rattle.records.proofs.Printing.{none_does, reply_does, report_six}
+use Rattle.records.proofs.Printing.{none_does, reply_does}
 use Rattle.records.proofs.events.Bench.event.Goals as goal
-
-pub unwrap-requires : goal.unwrap-requires
-unwrap-requires c = c.try_into.ensures.0 (report_six (rw c.in-Report.is at c.args.whole.not_torn))
 
 pub returns-in-BusReset : goal.returns-in-BusReset
 unfolding event_of

@@ -1,10 +1,6 @@
 -- The number, what was handed out and the end make the line.
-use Rattle.records.proofs.Putting.{line_left, puts_line}
+use Rattle.records.proofs.Putting.{puts_line}
 use Rattle.records.proofs.lines.Printer.put_line.Goals as goal
-
-pub put-requires : goal.put-requires
-put-requires g c =
-    line_left g.T.Hex.hex c.args.answer c.args.out.now c.number_of.ensures c.unwrap_or-count.ensures c.put_number.ensures c.put_each.ensures c.requires.room
 
 pub returns : goal.returns
 returns g c =
