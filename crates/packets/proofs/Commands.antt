@@ -1,7 +1,7 @@
 -- Laws of a packet that the bridge awaits: what it is answered, and what it leaves.
 use mathlib.Core.Path.{◌≡◌, refl, ap, ◌∙◌}
 use mathlib.Core.Bool.{Bool, true, false, cond, not, and-eq-true_iff}
-use mathlib.Core.List.{List, []}
+use mathlib.Core.List.{List}
 use Prim.Native.Nat.{ℕ, ◌-◌}
 use native.Mathlib.Omega.{arith}
 use lib.Dec.{eqb, ltb}
@@ -20,12 +20,10 @@ use Rattle.rules.specs.Numbered.{refusal_number, by_number, checked}
 use Rattle.rules.specs.Words.{long, first}
 use Rattle.rules.specs.Packets.{command_layout, command_of, block_of, valid, meaningful, direction_of, lun_of, recognises}
 use Rattle.rules.specs.Operations.{codes, operations_of}
-use Rattle.rules.specs.Answers.{unawaited_checks, awaited_checks, packet_answer}
+use Rattle.rules.specs.Answers.{awaited_checks, packet_answer}
 use Rattle.rules.specs.Step.{Packet, operations_for}
 use Rattle.rules.specs.Promise.{ToldOf}
-use Rattle.rules.specs.Held.{world}
 use Rattle.rules.proofs.Checks.{passed}
-use Rattle.rules.proofs.Demands.Mends.{met}
 use Rattle.rules.proofs.Numbered.{not_done}
 use Rattle.rules.proofs.Promises.{packet_refused, packet_done}
 use Rattle.outcomes.specs.Outcomes.{AnswersOf}
@@ -59,13 +57,6 @@ checked_err {A} x n e = go (eqb n 0)
     go : (t : Bool) → by_number {A = A} (Err e) ≡ cond t (Ok x) (Err n) → refusal_number e ≡ n
     go true h = absurd cc
     go false h = cc
-
--- a bridge that awaits a packet, by the checks
-pub awaits : (b : Bridge) → first (unawaited_checks b) ≡ 0 → Awaits b.dock.drives b
-awaits b h =
-    let k = passed (unawaited_checks b) refl h in
-    let free = met (world b [] []) k.0 k.1.0 k.1.1.0 in
-    record { holds = refl; configured = free.configured; runs = free.runs; awaits = free.awaits }
 
 module _ (drives : Drives) (p : List ℕ) where
   -- the command of a packet, and its drive

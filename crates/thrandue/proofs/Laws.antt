@@ -5,7 +5,7 @@ use mathlib.Core.List.{List, [], ◌++◌}
 use Prim.Native.Nat.{ℕ, ◌≤◌}
 use lib.ListN.{length, drop, take-append-drop}
 use lib.Seq.{length-take-le}
-use Rattle.std.specs.Prelude.{Ok, Err}
+use Rattle.std.specs.Prelude.{Err}
 use Rattle.rules.specs.declared.Bridge.{Bridge}
 use Rattle.rules.specs.declared.Request.{Request}
 use Rattle.rules.specs.declared.Change.TheVariants.{Nothing, Drops}
@@ -27,8 +27,7 @@ use Rattle.rules.proofs.Promises.{packet_unawaited}
 use Rattle.rules.proofs.Bursts.{leaves_unheld, served_unheld, end_mark_leaves}
 use Rattle.outcomes.specs.declared.Outcome.{Outcome}
 use Rattle.outcomes.specs.Outcomes.{outcome, left_by}
-use Rattle.packets.specs.Awaited.{Awaits}
-use Rattle.packets.proofs.Commands.{awaits, checked_ok, checked_err}
+use Rattle.packets.proofs.Commands.{checked_err}
 use Rattle.image.specs.Image.{bytes_of, held_of, decode, world_of, added}
 use Rattle.thrandue.specs.Calls.{called, returns, LeftInImage, holds, in_image, calls, CallTold}
 
@@ -83,9 +82,6 @@ module _ (image : List ℕ) {b : Bridge} (loaded : b ≡ decode image) where
       (packet_unawaited (decode image) (signature_of (bytes_of image)) p room (refusal_number e) (rw loaded at (checked_err tt (first (unawaited_checks b)) e says)) (not_done e)
       (bytes_of image) memory refl)
       r
-
-  pub awaits_told : by_number {A = Unit {0}} (Ok (tt {0})) ≡ checked (tt {0}) (first (unawaited_checks b)) → Awaits (decode image).dock.drives (decode image)
-  awaits_told says = awaits (decode image) (rw loaded at (checked_ok tt tt (first (unawaited_checks b)) says).0)
 
 -- ---- a packet in bursts
 

@@ -15,10 +15,6 @@ most image h =
 all : (image : List ℕ) → length image ≡ 62 → length (take (length (held_of image)) (drop 30 image)) ≡ length (held_of image)
 all image h = omega (arith, length-take (length (held_of image)) (drop 30 image), length-drop 30 image, most image h)
 
-pub overflow_cast-result : goal.overflow_cast-result
-overflow_cast-result c =
-    omega (arith, ap length (c.bytes.ensures.told ∙ ap (λ (f : Fragments). take f.count f.bytes) c.held.ensures), all c.args.image.now (omega arith), most c.args.image.now (omega arith))
-
 pub returns : goal.returns
 returns c =
     ap length (c.bytes.ensures.told ∙ ap (λ (f : Fragments). take f.count f.bytes) c.held.ensures) ∙ all c.args.image.now (omega arith)

@@ -4,11 +4,8 @@ use Rattle.rules.specs.Words.{byte}
 use Rattle.rules.specs.Bursts.{kept}
 use Rattle.image.specs.declared.Fragments.{Fragments}
 use Rattle.image.proofs.Holding.{held_by_value}
-use Rattle.thrandue.proofs.Laws.{unawaited_told, awaits_told, end_mark_told}
+use Rattle.thrandue.proofs.Laws.{unawaited_told, end_mark_told}
 use Rattle.thrandue.proofs.commands.thrandue_end_mark.Goals as goal
-
-pub take-requires : goal.take-requires
-take-requires c = awaits_told c.args.image.now c.load.ensures c.in-Ok.ensures
 
 pub returns-in-Ok : goal.returns-in-Ok
 returns-in-Ok c =

@@ -1,9 +1,6 @@
 -- A packet is refused where none is awaited.
-use Rattle.thrandue.proofs.Laws.{unawaited_told, awaits_told}
+use Rattle.thrandue.proofs.Laws.{unawaited_told}
 use Rattle.thrandue.proofs.commands.thrandue_packet.Goals as goal
-
-pub take-requires : goal.take-requires
-take-requires c = awaits_told c.args.image.now c.load.ensures c.in-Ok.ensures
 
 pub returns-in-Err : goal.returns-in-Err
 returns-in-Err c =
