@@ -1,10 +1,13 @@
 -- Laws of the exported calls: what is left in the image and returned, from what the event promises.
 use mathlib.Core.Path.{◌≡◌, refl, sym, ap, ◌∙◌}
 use mathlib.Core.Bool.{false}
-use mathlib.Core.List.{List, [], ◌++◌}
+use mathlib.Core.List.{List, ◌++◌}
 use Prim.Native.Nat.{ℕ, ◌≤◌}
-use lib.ListN.{length, drop, take-append-drop}
+use native.Mathlib.Omega.{arith}
+use lib.ListN.{length, take, drop, take-append-drop, length-take, length-drop}
 use lib.Seq.{length-take-le}
+use Rattle.rules.specs.Words.{byte}
+use Rattle.image.proofs.Holding.{counted_of_image}
 use Rattle.std.specs.Prelude.{Err}
 use Rattle.rules.specs.declared.Bridge.{Bridge}
 use Rattle.rules.specs.declared.Request.{Request}
@@ -19,7 +22,7 @@ use Rattle.rules.specs.Held.{world}
 use Rattle.rules.specs.Packets.{signature_of}
 use Rattle.rules.specs.Bursts.{kept}
 use Rattle.rules.specs.Answers.{unawaited_checks}
-use Rattle.rules.specs.Step.{Event, Control, Packet, Burst, EndMark, step, change}
+use Rattle.rules.specs.Step.{Event, Control, Packet, EndMark}
 use Rattle.rules.specs.Promise.{left_at, leaves, served}
 use Rattle.rules.specs.Demands.Bursts.{is_end_mark}
 use Rattle.rules.proofs.Numbered.{not_done}
@@ -28,7 +31,7 @@ use Rattle.rules.proofs.Bursts.{leaves_unheld, served_unheld, end_mark_leaves}
 use Rattle.outcomes.specs.declared.Outcome.{Outcome}
 use Rattle.outcomes.specs.Outcomes.{outcome, left_by}
 use Rattle.packets.proofs.Commands.{checked_err}
-use Rattle.image.specs.Image.{bytes_of, held_of, decode, world_of, added}
+use Rattle.image.specs.Image.{bytes_of, held_of, decode, world_of}
 use Rattle.thrandue.specs.Calls.{called, returns, LeftInImage, holds, in_image, calls, CallTold}
 
 module _ (image memory : List ℕ) (event : ℕ → Event) (room : List ℕ) (o : Outcome) {memory' room' : List ℕ} where
@@ -85,12 +88,6 @@ module _ (image : List ℕ) {b : Bridge} (loaded : b ≡ decode image) where
 
 -- ---- a packet in bursts
 
--- a burst that is added
-pub burst_told : (image burst : List ℕ) {returned : ℕ} {image' : List ℕ} → returned ≡ 0 → image' ≡ added burst image
-    → CallTold image (λ n. Burst burst) [] returned image' []
-unfolding step change
-burst_told image burst r e memory = rw (r, e) (ap (λ (i : List ℕ). called 0 (added burst i) memory []) (sym (take-append-drop 16 image)))
-
 -- an end mark, where what is held was judged as a packet
 pub end_mark_told : (image p room : List ℕ) → held_of image ≡ kept p → {returned : ℕ} {image' room' : List ℕ}
     → CallTold image (Packet p) room returned image' room' → CallTold image EndMark room returned image' room'
@@ -100,3 +97,12 @@ end_mark_told image p room h t memory =
 -- the configuration bytes are sixteen
 pub sixteen : (image : List ℕ) → 16 ≤ length image → length (bytes_of image) ≡ 16
 sixteen image h = length-take-le 16 image h
+
+-- an image is its configuration bytes and the others
+pub ruleset whole_image = (take-append-drop)
+
+-- as many bytes are held as count
+pub all_held : (image : List ℕ) → length image ≡ 62 → length (take (length (held_of image)) (drop 30 image)) ≡ length (held_of image)
+all_held image h =
+    let tail : List ℕ = drop 30 image in
+    omega (arith, counted_of_image image h, length-take (byte 61 image) tail, length-take (length (held_of image)) tail, length-drop 30 image)

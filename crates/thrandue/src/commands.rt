@@ -53,6 +53,7 @@ pub extern "C" fn thrandue_packet(
     }
 }
 
+#[tactic(auto, using(crate::proofs::Laws::whole_image), unfolding(rules::specs::Step::step, rules::specs::Step::change))]
 #[unsafe(no_mangle)]
 pub extern "C" fn thrandue_burst(image: &mut [u8; IMAGE], burst: &[u8]) -> u32
     ensures { CallTold image.old (λ n. Burst burst.now) [] result image.new [] }

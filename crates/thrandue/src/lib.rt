@@ -189,6 +189,7 @@ pub extern "C" fn thrandue_halts(image: &[u8; IMAGE]) -> u8
 }
 
 // How many bytes are held; 32 where they are too many.
+#[tactic(auto, using(crate::proofs::Laws::all_held))]
 #[unsafe(no_mangle)]
 pub extern "C" fn thrandue_held(image: &[u8; IMAGE]) -> u8
     ensures { result ≡ length (held_of image.now) }
