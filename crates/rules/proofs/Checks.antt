@@ -17,6 +17,11 @@ use Rattle.rules.specs.Requests.{Named, Unknown, Known, is_unknown, Row, table, 
 use Rattle.rules.specs.Answers.{request_checks, request_answer}
 use Rattle.rules.specs.Step.{Event, BusReset, Control, Packet, Report, StatusRequest, Burst, EndMark, answer, stands, done, damaged}
 
+-- where both are one it is picked
+pub both_same : {A : Type 0} (t : Bool) (x : A) → cond t x x ≡ x
+both_same true x = refl
+both_same false x = refl
+
 -- what is picked by a test has a property that both have
 picked : {A : Type 0} (has : A → Bool) (t : Bool) (x y : A) → (t ≡ true → has x ≡ true) → has y ≡ true → has (cond t x y) ≡ true
 picked has true x y h k = h refl

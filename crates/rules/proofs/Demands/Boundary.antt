@@ -20,7 +20,7 @@ use Rattle.rules.specs.Requests.{Named, Unknown, Known, Describes, setup_of, req
 use Rattle.rules.specs.Answers.{seen_of, request_answer, packet_answer, report_checks, report_answer, status_checks, status_answer}
 use Rattle.rules.specs.Step.{Event, BusReset, Control, Packet, Report, StatusRequest, Burst, EndMark, answer, change, held_after, step, rules, after, done, damaged}
 use Rattle.rules.specs.Demands.Boundary.{Ready, is_bus_reset, accepts, some_halt, clears_second, boundary, unbroken, kept_writes, status_in, Silent, Stop, Silence, Resumption, reset_among, NoEndWithoutReset, recovery, Recovery}
-use Rattle.rules.proofs.Checks.{answer_has, request_undamaged}
+use Rattle.rules.proofs.Checks.{answer_has, both_same, request_undamaged}
 
 -- a configured bridge in a stop that has noted a reset or not, with some pipe halted, whatever it holds
 data Stands (r : Bool) : World → Type 0 where
@@ -129,8 +129,7 @@ ending (ended n c f) h = (c, f)
 
 -- nothing to hand out
 pub none_given : (t : Bool) → ◌≡◌ {A = List ℕ} (cond t [] []) []
-none_given true = refl
-none_given false = refl
+none_given t = both_same t []
 
 -- a stop hands out no operation and no status packet
 quiet : {r : Bool} {w : World} → Stands r w → (e : Event) → ((step w e).operations ≡ []) × (status_in e (step w e) ≡ [])

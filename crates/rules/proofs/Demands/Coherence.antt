@@ -32,7 +32,7 @@ use Rattle.rules.proofs.Demands.Boundary.{none_given}
 use Rattle.rules.proofs.Demands.Refusals.{refusals}
 use Rattle.rules.proofs.Changes.{either, feature}
 use Rattle.rules.proofs.Demands.Requests.{whole}
-use Rattle.rules.proofs.Checks.{all_numbers, answer_has, EachRow, ◌also◌, request_each, request_passed, request_undamaged}
+use Rattle.rules.proofs.Checks.{all_numbers, answer_has, both_same, EachRow, ◌also◌, request_each, request_passed, request_undamaged}
 
 -- ---- the configuration
 
@@ -108,10 +108,6 @@ request_sets setup b =
         go true e false f h = sym (eqb-true v 0 e)
         go false e false f h = absurd (false≢true h)
 
-same : (t : Bool) (c : ℕ) → c ≡ cond t c c
-same true c = refl
-same false c = refl
-
 -- an event whose change does not set the configuration, whatever its answer
 event_keeps : (w : World) (e : Event) → Unset (change_done w e) → sets_to e (configuration w.bridge) ≡ configuration w.bridge
     → configuration (step w e).next.bridge ≡ cond (done (step w e).answer) (sets_to e (configuration w.bridge)) (configuration w.bridge)
@@ -122,7 +118,7 @@ event_keeps w e u k =
     (ap (λ (t : Bool). cond t 2 0)
     (kept (change w e) w.bridge
     (either Unset (done n) (change_done w e) (cond (damaged n) Stops Nothing) u (either Unset (damaged n) Stops Nothing tt tt)))
-    ∙ same (done n) (configuration w.bridge))
+    ∙ sym (both_same (done n) (configuration w.bridge)))
 
 event_sets : (w : World) (e : Event)
     → configuration (step w e).next.bridge ≡ cond (done (step w e).answer) (sets_to e (configuration w.bridge)) (configuration w.bridge)

@@ -27,6 +27,7 @@ use Rattle.rules.specs.Operations.{codes, action, operations_of}
 use Rattle.rules.specs.Answers.{packet_answer}
 use Rattle.rules.specs.Step.{Event, BusReset, Control, Packet, Report, StatusRequest, Burst, EndMark, Outcome, packet_makes, packet_answers, packet_changes, done, damaged, given, changing, change, step, rules, after, reached}
 use Rattle.rules.specs.Demands.Drives.{BusyKeepsLun, meaningful_before, packet_before, step_before, as_before, OneDriveIsBefore}
+use Rattle.rules.proofs.Checks.{both_same}
 use Rattle.rules.proofs.Demands.Operations.{counted}
 use Rattle.rules.proofs.Demands.Makers.{codes-length, packet_leaves}
 use Rattle.rules.proofs.Demands.Packets.{begun, drive_held}
@@ -92,10 +93,6 @@ changing_alike n x y h = go (done n) refl
     go true e = h (eqb-true n 0 e)
     go false e = refl
 
-either : {A : Type 0} (t : Bool) (x : A) → cond t x x ≡ x
-either true x = refl
-either false x = refl
-
 module _ (w : World) (p : List ℕ) (room : ℕ) (single : w.bridge.dock.drives ≡ One) where
   abbrev c : CommandPacket
   c = command_of p
@@ -151,13 +148,13 @@ module _ (w : World) (p : List ℕ) (room : ℕ) (single : w.bridge.dock.drives 
   outcome_before o e = e ∙ λ i.
       record {
         answer = answer_before i;
-        reply = either (done (packet_answers w p room)) [] i;
+        reply = both_same (done (packet_answers w p room)) [] i;
         stands = InRoom;
         operations = (operations_before ∙ ap (λ (n : ℕ). given n (cond known made0 [])) answer_before) i;
         next =
             world (made ((change_before ∙ ap (λ (n : ℕ). changing n (cond known (begins Lun0 c) (command_taken false c))) answer_before) i) w.bridge)
-            (either (done (packet_answers w p room)) w.bytes i)
-            (either (done (packet_answers w p room)) w.memory i);
+            (both_same (done (packet_answers w p room)) w.bytes i)
+            (both_same (done (packet_answers w p room)) w.memory i);
       }
 
 -- Get Max LUN replies 0, and nothing else changes

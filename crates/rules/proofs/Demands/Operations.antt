@@ -196,17 +196,14 @@ read_alike z z' p w v r m m' s = refl
 
 -- ---- the poll and the select
 
-other : (m n : ℕ) → eqb m n ≡ false → m ≡ n → ⊥
-other m n h = eqb-false m n h
-
 pub poll_bit : PollBit operations_of
 poll_bit lun block block' l d h =
-    rw (made_of lun block l d, made_set lun l d h, select_kept lun h (other 5 2 refl), transfer_kept d h (other 3 2 refl) (other 4 2 refl) (other 6 2 refl) (other 7 2 refl), h.clear)
+    rw (made_of lun block l d, made_set lun l d h, select_kept lun h (eqb-false 5 2 refl), transfer_kept d h (eqb-false 3 2 refl) (eqb-false 4 2 refl) (eqb-false 6 2 refl) (eqb-false 7 2 refl), h.clear)
     (poll_first _ _ _ _ _ _ _)
 
 pub select_last : SelectLast operations_of
 select_last lun block block' l d h =
-    rw (made_of lun block l d, made_set lun l d h, select_kept lun h (other 5 1 refl), transfer_kept d h (other 3 1 refl) (other 4 1 refl) (other 6 1 refl) (other 7 1 refl), h.clear)
+    rw (made_of lun block l d, made_set lun l d h, select_kept lun h (eqb-false 5 1 refl), transfer_kept d h (eqb-false 3 1 refl) (eqb-false 4 1 refl) (eqb-false 6 1 refl) (eqb-false 7 1 refl), h.clear)
     ((λ reading. rw reading (read_alike _ _ _ _ _ _ _ _ _)), (λ writing. (select_byte lun block, rw writing (select_moves _ _ _ _ _ _))))
 
 -- the select's operand with bit 5 clear, and with it set
@@ -227,7 +224,7 @@ pub select_bit : SelectBit operations_of
 select_bit lun block block' l d h =
     let now : select_byte lun block' ≡ device block + 16 * bit_of 4 (byte 11 block) =
     select_set lun block' h.set ∙ rw (h.elsewhere 3 (λ e. omega arith), h.elsewhere 11 (λ e. omega arith)) in
-    rw (made_of lun block l d, made_set lun l d h, transfer_kept d h (other 3 5 refl) (other 4 5 refl) (other 6 5 refl) (other 7 5 refl))
+    rw (made_of lun block l d, made_set lun l d h, transfer_kept d h (eqb-false 3 5 refl) (eqb-false 4 5 refl) (eqb-false 6 5 refl) (eqb-false 7 5 refl))
     (rw (select_clear lun block h.clear, now) (select_changes _ _ _ _ _ _ _ _ _))
 
 pub lun_bit : LunBit operations_of
@@ -250,10 +247,10 @@ weighs k n same five more lun block block' l d h =
 
 pub transfer_bits : TransferBits operations_of
 transfer_bits = (
-  weighs 6 2 (λ a. refl) (other 5 6 refl) (λ b b' d h. rw (put-bits h 3, put-bits h 4, put-bits h 6, put-bits h 7, h.clear) (omega arith)),
-  weighs 4 4 (λ a. refl) (other 5 4 refl) (λ b b' d h. rw (put-bits h 3, put-bits h 4, put-bits h 6, put-bits h 7, h.clear) (omega arith)),
-  weighs 3 8 (λ a. refl) (other 5 3 refl) (λ b b' d h. rw (put-bits h 3, put-bits h 4, put-bits h 6, put-bits h 7, h.clear) (omega arith)),
-  weighs 7 16 (λ a. refl) (other 5 7 refl) (λ b b' d h. rw (put-bits h 3, put-bits h 4, put-bits h 6, put-bits h 7, h.clear) (omega arith)),
+  weighs 6 2 (λ a. refl) (eqb-false 5 6 refl) (λ b b' d h. rw (put-bits h 3, put-bits h 4, put-bits h 6, put-bits h 7, h.clear) (omega arith)),
+  weighs 4 4 (λ a. refl) (eqb-false 5 4 refl) (λ b b' d h. rw (put-bits h 3, put-bits h 4, put-bits h 6, put-bits h 7, h.clear) (omega arith)),
+  weighs 3 8 (λ a. refl) (eqb-false 5 3 refl) (λ b b' d h. rw (put-bits h 3, put-bits h 4, put-bits h 6, put-bits h 7, h.clear) (omega arith)),
+  weighs 7 16 (λ a. refl) (eqb-false 5 7 refl) (λ b b' d h. rw (put-bits h 3, put-bits h 4, put-bits h 6, put-bits h 7, h.clear) (omega arith)),
 )
 
 pub transfer_way : TransferWay operations_of
