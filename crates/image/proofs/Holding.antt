@@ -2,11 +2,11 @@
 use mathlib.Core.Path.{◌≡◌, refl, sym, ap, subst, ◌∙◌}
 use mathlib.Core.Bool.{Bool, true, false, cond}
 use mathlib.Core.List.{List, [], ◌∷◌, ◌++◌, append_assoc}
-use Prim.Native.Nat.{ℕ, zero, suc, ◌+◌, ◌<◌, ◌≤◌}
+use Prim.Native.Nat.{ℕ, ◌+◌, ◌<◌, ◌≤◌}
 use native.Mathlib.Omega.{arith}
 use lib.Dec.{leb, ltb}
-use lib.ListN.{length, set, take, drop, length-set, length-take, length-append, length-drop}
-use lib.Seq.{take_all, take-length, take-append-le, get_or-append_seam, get_or-set_same, take-set-le, take_at, take-paste}
+use lib.ListN.{length, set, take, drop, length-set, length-take, length-append, length-drop, take-append-drop}
+use lib.Seq.{take_all, take-length, take-append-le, take-append_seam, get_or-append_seam, get_or-set_same, take-set-le, take_at, take-paste}
 use borrow.Author.Tests.{leb-true, leb-false, ltb-true, ltb-false, lt-ltb, le-ltb}
 use Rattle.rules.specs.Words.{byte, over}
 use Rattle.rules.specs.Held.{holding}
@@ -62,9 +62,7 @@ counted_of_image image h =
     sym (held_counted (take (byte 61 image) (drop 30 image)) (omega (arith, length-take (byte 61 image) (drop 30 image), length-drop 30 image)))
 
 take_again : (n : ℕ) (s : List ℕ) → take (length (take n s)) s ≡ take n s
-take_again zero s = refl
-take_again (suc n) [] = refl
-take_again (suc n) (x ∷ s) = ap (λ (l : List ℕ). x ∷ l) (take_again n s)
+take_again n s = ap (take (length (take n s))) (sym (take-append-drop n s)) ∙ take-append_seam (take n s) (drop n s)
 
 -- what is held, by value, is so held
 pub held_by_value : (image : List ℕ) → length (drop 30 image) ≡ 32 → held_of image ≡ kept (take (length (held_of image)) (drop 30 image))

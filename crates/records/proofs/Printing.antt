@@ -1,7 +1,7 @@
 -- From an event's promise and the line of its outcome to what the event prints.
 use mathlib.Core.Path.{◌≡◌, refl, sym, ap, ◌∙◌}
 use mathlib.Core.Bool.{Bool, true, false, not, ◌||◌, true≢false}
-use mathlib.Core.List.{List, [], ◌∷◌}
+use mathlib.Core.List.{List, []}
 use Prim.Native.Nat.{ℕ, ◌+◌, ◌≤◌, min}
 use native.Mathlib.Omega.{arith}
 use lib.Dec.{eqb, ltb}
@@ -9,6 +9,7 @@ use lib.ListN.{length, take, drop, length-append, length-drop, drop_of_length-le
 use lib.Seq.{take_all, take-length, take-append_seam, drop-length, length-take-le}
 use borrow.Author.Tests.{eqb-true, ltb-true, ltb-false}
 use borrow.Rule.Reborrow.{re_v}
+use Rattle.std.proofs.lemmas.List.{nil_from_length}
 use Rattle.rules.specs.declared.Stands.{Stands}
 use Rattle.rules.specs.declared.Stands.TheVariants.{InRoom, InMemory}
 use Rattle.rules.specs.Words.{laid}
@@ -114,11 +115,7 @@ pub none_does : (before : Bench) (event : ℕ → Event) (o : Outcome) → left_
     → Does before (event 0) (record { answer = o.answer; handed = Reply InRoom }) (changed_by o before)
 none_does before event o h hex none =
     let many : count_of o.answer ≡ 0 = omega (arith, count_fits before event [] o h refl) in
-    does before event [] InRoom o h hex_byte hex none before.reply (rw many (nothing _ (omega (arith, many, count before event [] o h)))) (Reply InRoom) {operations = before.operations} refl (omega (arith, many))
-  where
-    nothing : (xs : List ℕ) → length xs ≡ 0 → [] ≡ xs
-    nothing [] e = refl
-    nothing (x ∷ xs) e = absurd (omega arith)
+    does before event [] InRoom o h hex_byte hex none before.reply (rw many (sym (nil_from_length _ (omega (arith, many, count before event [] o h))))) (Reply InRoom) {operations = before.operations} refl (omega (arith, many))
 
 -- ---- what a control request hands out, wherever it stands
 

@@ -7,7 +7,8 @@ use native.Mathlib.Nat.{zero-add, add-zero, add_assoc}
 use native.Mathlib.Omega.{arith}
 use lib.Dec.{ltb}
 use lib.ListN.{length, take, drop, length-drop}
-use lib.Seq.{take_all, drop-drop}
+use lib.Seq.{drop-drop}
+use Rattle.std.proofs.lemmas.List.{take_rest}
 use Rattle.rules.specs.Words.{laid}
 use Rattle.rules.specs.declared.Bridge.{Bridge}
 use Rattle.rules.specs.Held.{World, world}
@@ -71,10 +72,6 @@ from_the_front {q = q} blank puts =
     let put = rw blank at puts.put in
     (put_laid put (omega (arith, q.inside, put.moved, put_length put)), omega (arith, put.moved))
 
--- the part of the block that is left
-part_left : (s : List ℕ) (used : ℕ) → take (length s - used) (drop used s) ≡ drop used s
-part_left s used = take_all (length s - used) (drop used s) (rw length-drop (omega arith))
-
 -- what a call leaves of a run that has ended
 left_is : (b : Bridge) {bytes memory : List ℕ} {all : Run} {v : World} (events : List Event) {lines room output : List ℕ} {used written : ℕ} {torn : Bool} {page p : Printer}
     → all ≡ before events lines used (ended torn v) → v ≡ world b bytes memory → Puts page lines p → page.at ≡ 0 → page.output.now ≡ room → written ≡ p.at → p.output.now ≡ output
@@ -110,7 +107,7 @@ module _ (last : Bool) (s : List ℕ) (start : Bench) (page : Printer) where
     rest = drop used s
 
     of_rest : Turns last b p rest t b' p'
-    of_rest = rw (part_left s used) at turn
+    of_rest = rw (take_rest s used) at turn
 
     -- the run that is left behind its first record, as the rules count it
     abbrev behind_first : Run
