@@ -66,7 +66,7 @@ impl From<u8> for Stage {
 // The count of what is more than a packet, which is too long by a byte or by more.
 const TOO_LONG: usize = 32;
 
-// What is held, by value, with room for a byte more than a packet has, and how much of it counts.
+// What is held, by value, with room for a byte more than a packet has, and how much of it counts: the record of the rules' `held_in`.
 #[derive(Clone, Copy)]
 pub struct Fragments {
     bytes: [u8; TOO_LONG],
@@ -316,7 +316,8 @@ fn put_calm(image: &mut [u8; IMAGE])
     put_reset(image);
 }
 
-// A command begins. Its numbers are stored last: in the other order the phase's last store is shared with that of a stop, by a jump.
+// A command begins; its fields come one by one, since in the arms of `make` these two would make it too long. Its numbers are stored last: in the other
+// order the phase's last store is shared with that of a stop, by a jump.
 fn put_begun(image: &mut [u8; IMAGE], direction: Direction, lun: Lun, tag: u32, length: u32)
     ensures { image.new ≡ put (Change.Begins direction lun tag length) image.old }
 {

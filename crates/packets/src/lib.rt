@@ -16,6 +16,7 @@ use passthrough::Unmade;
 use rules::refusals::Refusal;
 use rules::{Bridge, Change, CommandPacket, Direction, Drives, Lun, Phase, StatusPacket};
 
+// Length and signature, as the paper's "Valid" has them: so `command_of` asks for the length once more, where it could be an array's.
 #[tactic(auto, unfolding(rules::specs::Packets::valid))]
 fn is_valid(packet: &[u8]) -> bool
     ensures { result ≡ valid packet.now }

@@ -37,8 +37,7 @@ fn take(image: &mut [u8; IMAGE], packet: &[u8], operations: &mut [u16]) -> u32
     )
 }
 
-// Each of the two calls asks whether a packet is awaited: tried in `take`, where an end mark copies what is held for nothing, and takes half as many
-// instructions again.
+// Each of the two calls asks whether a packet is awaited: asked in `take`, an end mark would copy what is held where it is refused, too.
 #[unsafe(no_mangle)]
 pub extern "C" fn thrandue_packet(
     image: &mut [u8; IMAGE],
