@@ -58,7 +58,7 @@ fn halt_of(pipe: u16, b: Bridge) -> u8
 }
 
 // Done, with these bytes for a reply.
-fn replied(bytes: &[u8], reply: &mut [u8]) -> Outcome
+fn reply_with(bytes: &[u8], reply: &mut [u8]) -> Outcome
     requires { length bytes.now < 2 ^ 16 }
     ensures { (result ≡ outcome (Ok (length bytes.now)) Change.Nothing) × (reply.new ≡ over reply.old 0 bytes.now) }
 {
@@ -82,10 +82,10 @@ pub fn serve(
 {
     match r {
         Request::SetConfiguration => done(0, Change::Sets(s.value == 2)),
-        Request::GetConfiguration => replied(&[b.configuration()], reply),
+        Request::GetConfiguration => reply_with(&[b.configuration()], reply),
         Request::ClearFeature => done(0, recovery::clear_feature(s.index, b)),
-        Request::GetStatus => replied(&[halt_of(s.index, b), 0], reply),
-        Request::GetMaxLun => replied(&[b.dock.drives.max_lun()], reply),
+        Request::GetStatus => reply_with(&[halt_of(s.index, b), 0], reply),
+        Request::GetMaxLun => reply_with(&[b.dock.drives.max_lun()], reply),
         // A stop notes that it has come.
         Request::MassStorageReset => done(0, recovery::reset(b.phase, Change::Notes)),
         Request::LoadConfigData => {

@@ -316,8 +316,7 @@ fn put_calm(image: &mut [u8; IMAGE])
     put_reset(image);
 }
 
-// A command begins; its fields come one by one, since in the arms of `make` these two would make it too long. Its numbers are stored last: in the other
-// order the phase's last store is shared with that of a stop, by a jump.
+// A command begins. The fields of a change come one by one, here and where it finishes: in its arms `make` would be too long.
 fn put_begun(image: &mut [u8; IMAGE], direction: Direction, lun: Lun, tag: u32, length: u32)
     ensures { image.new ≡ put (Change.Begins direction lun tag length) image.old }
 {
