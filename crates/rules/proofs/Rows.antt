@@ -87,7 +87,3 @@ pub copied_in : (row : List ℕ) (at : ℕ) (xs ys : List ℕ) → at + length x
 copied_in row at xs ys h e =
     put_mid-paste at (at + length xs - at) row ys xs (length xs) e (omega arith) refl
     ∙ rw (take_all (length xs) xs (omega arith)) (sym (sets-eq xs row at h))
-
--- what is stored at the front is laid there
-pub stored_first : (row xs : List ℕ) → length xs ≤ length row → sets row 0 xs ≡ laid xs row
-stored_first row xs h = rw (sets-eq xs row 0 (omega arith), zero-add)
