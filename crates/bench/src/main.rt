@@ -56,7 +56,7 @@ fn main(rt: HostRuntime) -> io::Result<()> {
         end: 0,
     };
     let mut last = false;
-    // Counted, since a proved loop ends: `rt.forever()` would take a `Wait`, which is not allowed here. No stream uses so many turns up.
+    // Counted, since a proved loop ends: `rt.forever()` takes a `Wait`, and the repository has no HANDLES that allows one. No stream uses so many turns up.
     for _ in 0..u64::MAX {
         let ran = records::run(
             bridge,

@@ -54,7 +54,7 @@ fn halt_of(pipe: u16, b: Bridge) -> u8
     } else {
         b.halts.inward
     };
-    u8::from(halted)
+    halted as u8
 }
 
 // Done, with these bytes for a reply.

@@ -66,7 +66,7 @@ impl From<u8> for Stage {
 // The count of what is more than a packet, which is too long by a byte or by more.
 const TOO_LONG: usize = 32;
 
-// What is held, by value, with room for a byte more than a packet has, and how much of it counts: the record of the rules' `held_in`.
+// What is held, by value, with room for a byte more than a packet has, and how much of it counts: the record that `held_in` of the specs tells.
 #[derive(Clone, Copy)]
 pub struct Fragments {
     bytes: [u8; TOO_LONG],
@@ -151,10 +151,10 @@ pub fn power_on_with(image: &mut [u8; IMAGE], dock: Dock, settings: &[u8; 14])
     lent::copy(image, FIRST_SETTING, settings);
 }
 
-fn phase_from(kind: u8, detail: u8, tag: u32, amount: u32) -> Phase
-    ensures { result ≡ phase_from kind detail tag amount }
+fn phase_from(byte: u8, detail: u8, tag: u32, amount: u32) -> Phase
+    ensures { result ≡ phase_from byte detail tag amount }
 {
-    match Stage::from(kind) {
+    match Stage::from(byte) {
         Stage::Awaiting => Phase::Awaiting,
         Stage::Busy => Phase::Busy {
             direction: chosen(detail, Direction::Out, Direction::In),
@@ -204,7 +204,7 @@ pub fn drives_of(image: &[u8; IMAGE]) -> Drives
     dock_of(image).drives
 }
 
-// What a control request is judged by. The compiler makes no more of the bridge than this.
+// What a control request is judged by. It has no phase and no halts: the compiler leaves out what else the bridge would be made of.
 pub fn seen(image: &[u8; IMAGE]) -> Seen
     ensures { result ≡ seen_of (world_of image.now []) }
 {
@@ -316,7 +316,7 @@ fn put_calm(image: &mut [u8; IMAGE])
     put_reset(image);
 }
 
-// A command begins. The fields of a change come one by one, here and where it finishes: in its arms `make` would be too long.
+// A command begins. The fields come one by one, here and in `put_finished`: written in its arms they would make `make` too long.
 fn put_begun(image: &mut [u8; IMAGE], direction: Direction, lun: Lun, tag: u32, length: u32)
     ensures { image.new ≡ put (Change.Begins direction lun tag length) image.old }
 {

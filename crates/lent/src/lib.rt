@@ -30,6 +30,7 @@ pub fn copy(dst: &mut [u8], at: usize, src: &[u8])
     ensures { dst.new ≡ over dst.old at src.now }
 {
     let n = src.len().min(dst.len().saturating_sub(at));
+    // Where there is nothing to copy `at` may lie behind the end, where a part cannot begin.
     if n > 0 {
         dst[at..at + n].copy_from_slice(&src[..n]);
     }

@@ -43,14 +43,14 @@ pub fn bus_reset() -> Outcome
     done(0, Change::Sets(false))
 }
 
-// Public, with its row in PROMISES and its edits.
+// One `matches!`, and a function all the same: it is public, with its row in PROMISES and its edits.
 pub fn is_stopped(phase: Phase) -> bool
     ensures { result ≡ is_stopped phase }
 {
     matches!(phase, Phase::Stopped { .. })
 }
 
-// This, `halted` and `fresh` are words of the rules, one expression each.
+// This and `halted` are words of the rules, and `fresh` is put together of them: one expression each.
 fn in_phase(phase: Phase, b: Bridge) -> Bridge
     ensures { result ≡ in_phase phase b }
 {
@@ -67,7 +67,7 @@ fn halted(outward: bool, inward: bool, b: Bridge) -> Bridge
 }
 
 // The pipe of a direction is halted, or its halt is cleared.
-fn mark(direction: Direction, halt: bool, b: Bridge) -> Bridge
+fn with_halt(direction: Direction, halt: bool, b: Bridge) -> Bridge
     ensures { result ≡ cond halt (halting true direction b) (clearing direction b) }
 {
     match direction {
@@ -121,11 +121,15 @@ pub fn changed(change: Change, b: Bridge) -> Bridge
                 status,
             };
             let b = in_phase(waiting, b);
-            if halts { mark(direction, true, b) } else { b }
+            if halts {
+                with_halt(direction, true, b)
+            } else {
+                b
+            }
         }
         Change::Stops => in_phase(Phase::Stopped { reset: false }, halted(true, true, b)),
         Change::Notes => in_phase(Phase::Stopped { reset: true }, b),
-        Change::Clears(direction) => mark(direction, false, b),
+        Change::Clears(direction) => with_halt(direction, false, b),
         Change::Ends => fresh(b.configured, b),
     }
 }

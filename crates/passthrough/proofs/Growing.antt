@@ -1,14 +1,14 @@
 -- A row that grows: what stands behind what, the room that it takes, and what the registers make, one by one.
-use Rattle.std.proofs.Common.{◌≡◌, refl, sym, ap, arith, ℕ, suc, ◌+◌, ◌≤◌, ◌<◌, List, [], ◌∷◌, ◌++◌, length, length-append, append_assoc, add-one, add-zero, zero-add, add-suc, suc-add, add_assoc}
+use Rattle.std.proofs.Common.{◌≡◌, refl, arith, ℕ, suc, ◌+◌, ◌≤◌, ◌<◌, List, [], ◌∷◌, ◌++◌, length, length-append, append_assoc, add-one, add-zero, zero-add, add-suc, suc-add, add_assoc}
 use Rattle.std.proofs.Math.ListN.{set}
 use Rattle.std.proofs.Math.Seq.{sets, sets-eq, length-sets}
 use native.Mathlib.Decide.{le_ind}
 use native.Mathlib.Nat.{le_refl}
 use Rattle.rules.specs.Words.{laid}
 use Rattle.rules.specs.Operations.{Operation, code, codes, writes, reads}
+use Rattle.rules.proofs.Demands.Makers.{codes-length}
 use Rattle.passthrough.specs.declared.blocks.Access.{Access}
 use Rattle.passthrough.specs.declared.blocks.Access.TheVariants.{Write, Read}
-use Rattle.rules.proofs.Demands.Makers.{codes-length}
 use Rattle.passthrough.specs.declared.rows.Row.{Row}
 use Rattle.passthrough.specs.Blocks.{accesses}
 use Rattle.passthrough.specs.Rows.{after, rising}

@@ -162,8 +162,8 @@ impl<'a> Block<'a> {
         (!self.acts(ActionBit::PollAltStatOverride)).then_some(Operation::Poll)
     }
 
-    // If it is selected.
-    fn access(&self, access: Access, register: Register) -> Option<Operation>
+    // The write or read of a register, if it is selected.
+    fn accessed(&self, access: Access, register: Register) -> Option<Operation>
         ensures { listed result ≡ accesses access self.now.bytes.now (register.number ∷ []) }
     {
         let operation = match access {
@@ -211,7 +211,7 @@ impl<'a> Block<'a> {
         ensures { row.new ≡ after (accesses access self.now.bytes.now (rising n)) row.old }
     {
         for number in 0..n {
-            row.extend(self.access(access, Register { number }));
+            row.extend(self.accessed(access, Register { number }));
         }
     }
 
@@ -222,11 +222,11 @@ impl<'a> Block<'a> {
         ensures { row.new ≡ after (commanded select self.now.bytes.now) row.old }
     {
         if self.acts(ActionBit::DeviceSelectionOverride) {
-            row.extend(self.access(Access::Write, Register::COMMAND));
+            row.extend(self.accessed(Access::Write, Register::COMMAND));
             row.put(Operation::Select(select));
         } else {
             row.put(Operation::Select(select));
-            row.extend(self.access(Access::Write, Register::COMMAND));
+            row.extend(self.accessed(Access::Write, Register::COMMAND));
         }
     }
 

@@ -1,23 +1,31 @@
 -- Laws of what is put behind what is put.
-use mathlib.Core.Path.{◌≡◌, refl, ap, ◌∙◌}
+use mathlib.Core.Path.{◌≡◌, refl, sym, ap, ◌∙◌}
 use mathlib.Core.Bool.{Bool, true, false, cond}
 use mathlib.Core.List.{List, [], ◌∷◌, ◌++◌, append-nil}
-use Prim.Native.Nat.{ℕ, ◌+◌, ◌*◌, ◌/◌, ◌%◌, ◌≤◌, ◌<◌}
+use Prim.Native.Nat.{ℕ, ◌+◌, ◌-◌, ◌*◌, ◌/◌, ◌%◌, ◌≤◌, ◌<◌}
 use native.Mathlib.Nat.{zero-mul, suc-mul}
 use native.Mathlib.Numerals.{add-one}
 use native.Mathlib.Omega.{arith}
 use lib.ListN.{length, take, drop, get_or, length-append}
-use lib.Seq.{take-suc, drop-cons, length-take-le}
+use lib.Seq.{sets, sets-eq, take-suc, drop-cons, take_all, length-take-le}
 use lib.Dec.{ltb}
+use borrow.Rule.Slice.PartMut.{put_mid}
 use Rattle.std.specs.Prelude.{Result, Ok, Err}
 use Rattle.std.specs.Result.{result_unwrap_or}
 use Rattle.std.proofs.lemmas.Grind.{flat_map-append}
+use Rattle.std.proofs.lemmas.Slice.{put_mid-paste}
 use Rattle.rules.specs.declared.refusals.Refusal.{Refusal}
 use Rattle.rules.specs.Numbered.{answer_of, count_of}
 use Rattle.lent.proofs.Rows.{put_put, fits_next}
 use Rattle.records.specs.declared.lines.Printer.{Printer}
 use Rattle.records.specs.Puts.{Puts, Room, HasRoom, line_of}
 use Rattle.records.specs.Lines.{digit, number, hex_byte, hex_word, each}
+
+-- a text, copied into its place
+pub put_text : (row : List ℕ) (at : ℕ) (xs ys : List ℕ) → at + length xs ≤ length row → ys ≡ xs → put_mid at (at + length xs - at) row ys ≡ sets row at xs
+put_text row at xs ys h e =
+    put_mid-paste at (at + length xs - at) row ys xs (length xs) e (omega arith) refl
+    ∙ rw (take_all (length xs) xs (omega arith)) (sym (sets-eq xs row at h))
 
 pub puts_puts : {a b c : Printer} (xs ys : List ℕ) → Puts a xs b → Puts b ys c → Puts a (xs ++ ys) c
 puts_puts xs ys p q = record { same = q.same ∙ p.same; put = put_put xs ys p.put q.put }

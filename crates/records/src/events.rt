@@ -1,5 +1,5 @@
 // The bench's events: each record goes through the bridge, and what that answers is printed.
-ghost use Rattle.std.specs.Prelude.{◌≡◌, length};
+ghost use Rattle.std.specs.Prelude.{◌≡◌};
 
 use crate::lines::Printer;
 use crate::reading::{Head, Kind, Record};
@@ -13,6 +13,7 @@ const HEADER: usize = 4;
 
 const SETUP: usize = 8;
 
+// The rooms for a reply and for operations.
 const REPLY: usize = 4096;
 
 const OPERATIONS: usize = 11;
@@ -129,6 +130,7 @@ impl<'a> Bench<'a> {
             Kind::BusReset => self.done(bridge::bus_reset(), Handed::Reply(Stands::InRoom)),
             Kind::Control => self.control(whole.payload),
             Kind::Packet => self.packet(whole.payload),
+            // Six bytes, as a record of this kind holds: the fact of Record.
             Kind::Report => self.report(whole.payload.try_into().unwrap()),
             Kind::Status => {
                 let o = bridge::status(self.bridge, &mut self.reply);

@@ -97,7 +97,7 @@ impl<'a> Printer<'a> {
         self.at += 1;
     }
 
-    #[tactic(auto, using(rules::proofs::Rows::copied_in))]
+    #[tactic(auto, using(crate::proofs::Putting::put_text))]
     pub(crate) fn put_text(&mut self, text: &[u8])
         requires { Room self.old text.now }
         ensures { Puts self.old text.now self.new }

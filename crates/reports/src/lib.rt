@@ -23,6 +23,7 @@ impl Said {
     ghost use Rattle.rules.specs.Reports.{mismatch, finished};
     ghost use Rattle.reports.specs.Said.{moved_number};
 
+    // What these numbers say; None where they are malformed.
     #[tactic(auto, unfolding(rules::specs::Reports::malformed))]
     fn of(direction: u8, failed: u8, amount: u32) -> Option<Said>
         ensures { Says direction failed amount result }

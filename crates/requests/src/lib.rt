@@ -136,8 +136,8 @@ impl<'a> Asked<'a> {
         &self.memory[..self.memory.len().min(MEMORY_MOST)]
     }
 
-    // Checks 2 and 3: the host sends wLength bytes where the type is below 0x80, else it is sent them. Each way has its own test for 2: tried with one for
-    // both, where the compiler joins the rows of the table before 3, and a request takes up to nine instructions more.
+    // Checks 2 and 3: the host sends wLength bytes where the type is below 0x80, else it is sent them. Each way has its own test for 2: with one for both
+    // the compiler joins the rows of the table before 3, and most requests take more instructions.
     fn check_data(&self) -> Result<(), Refusal>
         ensures { let a = self.now in by_number result ≡ checked tt (first (data_checks false a.setup a.host a.room)) }
     {

@@ -17,7 +17,7 @@ use Rattle.rules.specs.Requests.{Named, Unknown, Known, is_unknown, Row, table, 
 use Rattle.rules.specs.Answers.{request_checks, request_answer}
 use Rattle.rules.specs.Step.{Event, BusReset, Control, Packet, Report, StatusRequest, Burst, EndMark, answer, stands, done, damaged}
 
--- where both are one it is picked
+-- where both are the same, that is picked
 pub both_same : {A : Type 0} (t : Bool) (x : A) → cond t x x ≡ x
 both_same true x = refl
 both_same false x = refl

@@ -7,9 +7,7 @@ use Prim.Native.Nat.{ℕ, zero, suc, ◌+◌, ◌-◌, ◌*◌, ◌/◌, ◌%◌
 use native.Mathlib.Nat.{zero-add, suc-add, div-div-eq-div-mul}
 use native.Mathlib.Omega.{arith}
 use lib.ListN.{length, take, drop, length-drop, drop_of_length-le, take-append-drop}
-use lib.Seq.{length-take-le, drop-cons, take-append-le, drop-append-le, paste, paste-zero, sets, sets-eq, take_all}
-use borrow.Rule.Slice.PartMut.{put_mid}
-use Rattle.std.proofs.lemmas.Slice.{put_mid-paste}
+use lib.Seq.{length-take-le, drop-cons, take-append-le, drop-append-le, paste, paste-zero}
 use Rattle.rules.specs.Words.{byte, laid, over}
 
 pub over-length : (row : List ℕ) (at : ℕ) (xs : List ℕ) → length (over row at xs) ≡ length row
@@ -81,9 +79,3 @@ pub in_parts : (k n : ℕ) (p : List ℕ) → k + n ≤ length p → drop k p �
 in_parts k zero p h = refl
 in_parts k (suc n) p h =
     drop-cons p k 0 (omega arith) ∙ ap (λ (l : List ℕ). byte k p ∷ l) (in_parts (suc k) n p (omega arith))
-
--- what is copied into its place is stored there
-pub copied_in : (row : List ℕ) (at : ℕ) (xs ys : List ℕ) → at + length xs ≤ length row → ys ≡ xs → put_mid at (at + length xs - at) row ys ≡ sets row at xs
-copied_in row at xs ys h e =
-    put_mid-paste at (at + length xs - at) row ys xs (length xs) e (omega arith) refl
-    ∙ rw (take_all (length xs) xs (omega arith)) (sym (sets-eq xs row at h))

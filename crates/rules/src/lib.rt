@@ -21,7 +21,7 @@ pub enum Direction {
 }
 
 impl Direction {
-    // Public, with its row in PROMISES and its edits.
+    // One `matches!`, and a function all the same: it is public, with its row in PROMISES and its edits.
     pub fn is_in(self) -> bool
         ensures { result ≡ inward self }
     {

@@ -1,7 +1,6 @@
 // The status request: the packet that waits, written into the lent room.
 #![tactic(auto)]
 
-ghost use Rattle.std.specs.Prelude.{◌≡◌};
 ghost use Rattle.statuses.specs.Waiting.{Waits};
 ghost use Rattle.outcomes.specs.Outcomes.{Answers};
 ghost use Rattle.rules.specs.Step.{StatusRequest};

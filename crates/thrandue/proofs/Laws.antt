@@ -6,8 +6,6 @@ use Prim.Native.Nat.{ℕ, ◌≤◌}
 use native.Mathlib.Omega.{arith}
 use lib.ListN.{length, take, drop, take-append-drop, length-take, length-drop}
 use lib.Seq.{length-take-le}
-use Rattle.rules.specs.Words.{byte}
-use Rattle.image.proofs.Holding.{counted_of_image}
 use Rattle.std.specs.Prelude.{Err}
 use Rattle.rules.specs.declared.Bridge.{Bridge}
 use Rattle.rules.specs.declared.Request.{Request}
@@ -17,7 +15,7 @@ use Rattle.rules.specs.declared.Stands.TheVariants.{InMemory}
 use Rattle.rules.specs.declared.addresses.Address.{Address}
 use Rattle.rules.specs.declared.refusals.Refusal.{Refusal}
 use Rattle.rules.specs.Numbered.{refusal_number, by_number, checked}
-use Rattle.rules.specs.Words.{first}
+use Rattle.rules.specs.Words.{byte, first}
 use Rattle.rules.specs.Held.{world}
 use Rattle.rules.specs.Packets.{signature_of}
 use Rattle.rules.specs.Bursts.{kept}
@@ -32,6 +30,7 @@ use Rattle.outcomes.specs.declared.Outcome.{Outcome}
 use Rattle.outcomes.specs.Outcomes.{outcome, left_by}
 use Rattle.packets.proofs.Commands.{checked_err}
 use Rattle.image.specs.Image.{bytes_of, held_of, decode, world_of}
+use Rattle.image.proofs.Holding.{counted_of_image}
 use Rattle.thrandue.specs.Calls.{called, returns, LeftInImage, holds, in_image, calls, CallTold}
 
 module _ (image memory : List ℕ) (event : ℕ → Event) (room : List ℕ) (o : Outcome) {memory' room' : List ℕ} where

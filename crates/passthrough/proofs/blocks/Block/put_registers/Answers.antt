@@ -5,5 +5,5 @@ use Rattle.passthrough.proofs.blocks.Block.put_registers.Goals as goal
 
 pub extend-requires : goal.extend-requires
 extend-requires c =
-    rw (c.access.ensures, c.loop-number.invariant, room_after, at_after)
+    rw (c.accessed.ensures, c.loop-number.invariant, room_after, at_after)
     (omega (arith, c.requires.room, accesses_fit c.args.access c.args.self.now.bytes.now c.loop-number.number c.args.n c.loop-number-test.true))
