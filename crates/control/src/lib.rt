@@ -12,7 +12,7 @@ ghost use Rattle.rules.specs.Promise.{leaves, served};
 
 mod recovery;
 
-use outcomes::{Outcome, done, refused};
+use outcomes::{Outcome, done};
 use requests::Granted;
 use rules::addresses::StringIndex;
 use rules::fields::{BULK_OUT, FIRST_STRING, MEMORY};
@@ -118,7 +118,7 @@ pub fn control(
     let seen = b.seen(StringIndex(bytes[FIRST_STRING]));
     match requests::judge(seen, memory, setup, host.len(), reply.len()) {
         Err(refusal) => ControlOutcome {
-            outcome: refused(refusal),
+            outcome: Outcome::from(refusal),
             stands: Stands::InRoom,
         },
         Ok(Granted::Request(r, s)) => ControlOutcome {

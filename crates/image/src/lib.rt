@@ -151,6 +151,7 @@ pub fn power_on_with(image: &mut [u8; IMAGE], dock: Dock, settings: &[u8; 14])
     lent::copy(image, FIRST_SETTING, settings);
 }
 
+// Of its byte, and of the byte in which what goes with it is packed, by `phase_from` of the specs.
 fn phase_from(byte: u8, detail: u8, tag: u32, amount: u32) -> Phase
     ensures { result ≡ phase_from byte detail tag amount }
 {

@@ -13,7 +13,7 @@ use Rattle.rules.proofs.Unique.{only}
 use Rattle.outcomes.specs.declared.Outcome.{Outcome}
 use Rattle.outcomes.specs.Outcomes.{outcome, left_by}
 use Rattle.outcomes.proofs.bus_reset as BusReset
-use Rattle.outcomes.proofs.refused as Refused
+use Rattle.outcomes.proofs.OutcomeFromRefusal.from as OutcomeFromRefusal
 use Rattle.outcomes.proofs.done as Done
 use Rattle.outcomes.proofs.is_stopped as IsStopped
 use Rattle.outcomes.proofs.changed as Changed
@@ -28,8 +28,8 @@ bus_reset κs a r r' left left' p q =
     let any : Bridge = power_on (docked false Of256 One) in
     (tells r r' (only (p any [] []) (q any [] [])), refl)
 
-pub refused : OneOutcome Refused.Kinds.ps Refused.Kinds.r Refused.Reads.Post
-refused κs a r r' left left' p q = (only p q, refl)
+pub «OutcomeFromRefusal::from» : OneOutcome OutcomeFromRefusal.Kinds.ps OutcomeFromRefusal.Kinds.r OutcomeFromRefusal.Reads.Post
+«OutcomeFromRefusal::from» κs a r r' left left' p q = (only p q, refl)
 
 pub done : OneOutcome Done.Kinds.ps Done.Kinds.r Done.Reads.Post
 done κs a r r' left left' p q = (only p q, refl)

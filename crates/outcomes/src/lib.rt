@@ -18,12 +18,14 @@ pub struct Outcome {
     pub change: Change,
 }
 
-pub fn refused(refusal: Refusal) -> Outcome
-    ensures { result ≡ outcome (Err refusal) Change.Nothing }
-{
-    Outcome {
-        answer: Err(refusal),
-        change: Change::Nothing,
+impl From<Refusal> for Outcome {
+    fn from(refusal: Refusal) -> Outcome
+        ensures { result ≡ outcome (Err refusal) Change.Nothing }
+    {
+        Outcome {
+            answer: Err(refusal),
+            change: Change::Nothing,
+        }
     }
 }
 

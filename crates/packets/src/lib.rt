@@ -11,7 +11,7 @@ ghost use Rattle.rules.specs.Answers.{unawaited_checks};
 ghost use Rattle.rules.specs.Step.{Packet};
 ghost use Rattle.rules.specs.Packets.{command_layout, command_of, valid, sensible, meaningful, direction_of, lun_of, begins, command_taken};
 
-use outcomes::{Outcome, done, refused};
+use outcomes::{Outcome, done};
 use passthrough::Unmade;
 use rules::refusals::Refusal;
 use rules::{Bridge, Change, CommandPacket, Direction, Drives, Lun, Phase, StatusPacket};
@@ -27,6 +27,7 @@ fn is_valid(packet: &[u8]) -> bool
     lent::long(packet[0], packet[1], packet[2], packet[3]) == CommandPacket::SIGNATURE
 }
 
+// No `From`: it would be public, for one caller.
 fn command_of(packet: &[u8]) -> CommandPacket
     requires { length packet.now ≡ command_layout.length }
     ensures { result ≡ command_of packet.now }
@@ -124,7 +125,7 @@ fn taken(judgement: Result<u16, Unmade>, lun: Lun, c: CommandPacket) -> Outcome
     match judgement {
         Ok(count) => done(count, begun(lun, c)),
         Err(Unmade::Unrecognised) => done(0, failed(c)),
-        Err(Unmade::NoRoom) => refused(Refusal::OperationRoom),
+        Err(Unmade::NoRoom) => Outcome::from(Refusal::OperationRoom),
     }
 }
 
@@ -176,6 +177,6 @@ pub fn packet(b: Bridge, signature: u8, packet: &[u8], operations: &mut [u16]) -
 {
     match unawaited(b) {
         Ok(()) => awaited(b.dock.drives, signature, packet, operations),
-        Err(refusal) => refused(refusal),
+        Err(refusal) => Outcome::from(refusal),
     }
 }

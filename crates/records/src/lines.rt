@@ -48,7 +48,7 @@ impl Hex for u16 {
     }
 }
 
-// 0 to 9, then A on. By hand, since `write!` into what is lent would take an impl of `fmt::Write`, and its error, for these two lines.
+// 0 to 9, then A on. This and `put_number` by hand, since `write!` into what is lent would take an impl of `fmt::Write`, and its error, for these two lines.
 fn digit(d: u8) -> u8
     requires { d < 36 }
     ensures { result ≡ digitOf d }

@@ -6,7 +6,7 @@ ghost use Rattle.outcomes.specs.Outcomes.{Answers};
 ghost use Rattle.rules.specs.Step.{Report};
 ghost use Rattle.reports.specs.Said.{Says};
 
-use outcomes::{Outcome, done, refused};
+use outcomes::{Outcome, done};
 use rules::refusals::Refusal;
 use rules::{Bridge, Change, Direction, Phase, StatusPacket};
 
@@ -83,7 +83,7 @@ pub fn report(b: Bridge, direction: u8, failed: u8, amount: u32) -> Outcome
     ensures { Answers b (λ n. Report direction failed amount) [] result [] }
 {
     if !b.configured {
-        return refused(Refusal::Unconfigured);
+        return Outcome::from(Refusal::Unconfigured);
     }
     let Phase::Busy {
         direction: host,
@@ -92,10 +92,10 @@ pub fn report(b: Bridge, direction: u8, failed: u8, amount: u32) -> Outcome
         ..
     } = b.phase
     else {
-        return refused(Refusal::WrongPhase);
+        return Outcome::from(Refusal::WrongPhase);
     };
     let Some(said) = Said::of(direction, failed, amount) else {
-        return refused(Refusal::Malformed);
+        return Outcome::from(Refusal::Malformed);
     };
     done(0, said.finish(host, tag, length))
 }

@@ -134,7 +134,7 @@ pub fn read(store: &[u8]) -> Result<Settings, Refusal>
 // What a written record takes.
 pub const RECORD: usize = 19;
 
-// A record of the newest kind: payload length, kind, payload.
+// A record of the newest kind: payload length, kind, payload. No `From`: it would be public, for one caller.
 fn record_of(settings: Settings) -> [u8; RECORD]
     ensures { result ≡ written settings }
 {

@@ -5,7 +5,7 @@ ghost use Rattle.statuses.specs.Waiting.{Waits};
 ghost use Rattle.outcomes.specs.Outcomes.{Answers};
 ghost use Rattle.rules.specs.Step.{StatusRequest};
 
-use outcomes::{Outcome, done, refused};
+use outcomes::{Outcome, done};
 use rules::refusals::Refusal;
 use rules::{Bridge, Change, Phase, StatusPacket};
 
@@ -15,7 +15,7 @@ fn handed_out(p: StatusPacket, reply: &mut [u8]) -> Outcome
     ensures { (b : Bridge) → Waits b p → Answers b StatusRequest reply.old result reply.new }
 {
     if reply.len() < StatusPacket::LENGTH {
-        return refused(Refusal::ReplyRoom);
+        return Outcome::from(Refusal::ReplyRoom);
     }
     lent::copy(reply, 0, &lent::bytes_of(StatusPacket::SIGNATURE));
     lent::copy(reply, 4, &lent::bytes_of(p.tag));
@@ -29,10 +29,10 @@ pub fn status(b: Bridge, reply: &mut [u8]) -> Outcome
     ensures { Answers b StatusRequest reply.old result reply.new }
 {
     if !b.configured {
-        return refused(Refusal::Unconfigured);
+        return Outcome::from(Refusal::Unconfigured);
     }
     if outcomes::is_stopped(b.phase) | b.halts.inward {
-        return refused(Refusal::Halted);
+        return Outcome::from(Refusal::Halted);
     }
     let Phase::StatusWaiting {
         tag,
@@ -40,7 +40,7 @@ pub fn status(b: Bridge, reply: &mut [u8]) -> Outcome
         status,
     } = b.phase
     else {
-        return refused(Refusal::WrongPhase);
+        return Outcome::from(Refusal::WrongPhase);
     };
     let waiting = StatusPacket {
         tag,

@@ -1,4 +1,5 @@
 -- One byte more is set and listed, or is as it should be.
+-- Tried with `using` of `skips`, `has_room`, `takes` and `ended`: the proof did not close.
 use Rattle.std.proofs.Common.{arith}
 use Rattle.mend.proofs.Setting.{skips, has_room, takes, ended}
 use Rattle.mend.proofs.set.Goals.{then-new-old, else-new-old}

@@ -1,4 +1,5 @@
 -- Each outcome is what the rules promise: of a packet that is damaged, and one whose block is judged.
+-- Tried with `unfolding` of the answer and the step: only that of damage closed, and at its limit.
 use Rattle.packets.proofs.Commands.{thirty_one, block_part, undamaged, damaged, taken_so}
 use Rattle.packets.proofs.awaited.Goals as goal
 

@@ -1,4 +1,5 @@
 -- At the end nothing is left to take.
+-- Tried with `using` of `ends`: the proof did not close.
 use Rattle.std.proofs.Common.{rules}
 use Rattle.records.proofs.Running.{ends}
 use Rattle.records.proofs.run.Goals as goal

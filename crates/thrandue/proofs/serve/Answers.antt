@@ -1,4 +1,5 @@
 -- The first sixteen bytes of the image are the configuration bytes, and the others stay.
+-- Tried with `using` of `take_at`: the proof did not close.
 use Rattle.std.proofs.Common.{◌≡◌, sym, ap, ℕ, List, ◌++◌, arith, length, take, drop}
 use Rattle.std.proofs.Math.Seq.{take_at}
 use Rattle.thrandue.proofs.serve.Goals as goal

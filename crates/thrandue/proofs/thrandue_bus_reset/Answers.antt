@@ -1,4 +1,5 @@
 -- A bus reset, whatever the memory.
+-- Tried with `using` of `told`, and `unfolding` of the step and its change: the proof did not close.
 use Rattle.std.proofs.Common.{refl, []}
 use Rattle.rules.specs.Step.{BusReset}
 use Rattle.image.specs.Image.{bytes_of, decode}

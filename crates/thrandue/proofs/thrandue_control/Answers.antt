@@ -1,4 +1,5 @@
 -- A request is granted and served, or its descriptor is found, or it is refused, as it was judged.
+-- Tried with `using` of `granted`, `found_there`, `unwritten`, `sixteen` and `by_judgement`: the proof did not close.
 use Rattle.std.proofs.Common.{Err, refl, arith}
 use Rattle.rules.specs.declared.Change.TheVariants.{Nothing}
 use Rattle.rules.specs.Held.{World}

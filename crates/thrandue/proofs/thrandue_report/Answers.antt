@@ -1,4 +1,5 @@
 -- A report, whatever the memory.
+-- Tried with `using` of `told`: the proof did not close.
 use Rattle.std.proofs.Common.{refl, []}
 use Rattle.rules.specs.Step.{Report}
 use Rattle.image.specs.Image.{bytes_of}

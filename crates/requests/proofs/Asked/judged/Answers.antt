@@ -1,4 +1,5 @@
 -- A descriptor is sent to the host, and needs no room.
+-- Tried with `using` of `sent_back`: the proof did not close.
 use Rattle.std.proofs.Common.{rules, arith, ◌≡◌, refl, Bool, true, false, not, ltb}
 use mathlib.Core.Bool.{false≢true}
 use borrow.Author.Tests.{le-ltb}

@@ -1,4 +1,5 @@
 -- What is held is dropped, and the packet is judged by the bridge and the signature as they were.
+-- Tried with `using` of `told`: the proof did not close.
 use Rattle.std.proofs.Common.{refl, sym, ap, ◌∙◌, ℕ, List}
 use Rattle.rules.specs.declared.Bridge.{Bridge}
 use Rattle.rules.specs.Packets.{signature_of}

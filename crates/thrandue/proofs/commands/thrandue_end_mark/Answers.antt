@@ -1,4 +1,5 @@
 -- What is held is a packet: refused where none is awaited, else taken.
+-- Tried with `using` of `unawaited_told`, `end_mark_told` and `held_by_value`: the proof did not close.
 use Rattle.std.proofs.Common.{◌≡◌, ◌∙◌, sym, ap, ℕ, List, refl, arith, length, length-drop, take, drop}
 use Rattle.rules.specs.Words.{byte}
 use Rattle.rules.specs.Bursts.{kept}

@@ -1,4 +1,5 @@
 -- A packet is refused where none is awaited.
+-- Tried with `using` of `unawaited_told`: the proof did not close.
 use Rattle.thrandue.proofs.Laws.{unawaited_told}
 use Rattle.thrandue.proofs.commands.thrandue_packet.Goals as goal
 

@@ -1,4 +1,5 @@
 -- There is room for one register more.
+-- Tried with `using` of `rows`, `accesses_next` and `accesses_fit`: the proof did not close.
 use Rattle.std.proofs.Common.{arith}
 use Rattle.passthrough.proofs.Growing.{room_after, at_after, accesses_fit}
 use Rattle.passthrough.proofs.blocks.Block.put_registers.Goals as goal

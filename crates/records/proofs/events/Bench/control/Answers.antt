@@ -1,4 +1,5 @@
 -- A control request hands out its reply, wherever that stands.
+-- Tried with `using` of `control_does`: the proof did not close.
 use Rattle.std.proofs.Common.{arith, ◌≡◌, length, take, drop}
 use Rattle.records.proofs.Printing.{control_does, control_event}
 use Rattle.records.proofs.events.Bench.control.Goals as goal

@@ -1,4 +1,5 @@
 -- Each kind has its own event.
+-- Tried with `using` of `none_does` and `reply_does`, and `unfolding` of `event_of`: the proof did not close.
 use Rattle.std.proofs.Common.{arith, ◌≡◌, length, refl}
 use Rattle.rules.specs.Step.{BusReset, StatusRequest}
 use Rattle.records.specs.Records.{event_of}

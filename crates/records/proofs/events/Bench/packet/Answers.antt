@@ -1,4 +1,5 @@
 -- A packet hands out its operations.
+-- Tried with `using` of `operations_do`, and `unfolding` of `event_of`: the proof did not close.
 use Rattle.std.proofs.Common.{arith, ◌≡◌, length, refl}
 use Rattle.rules.specs.Step.{Packet}
 use Rattle.records.specs.Records.{event_of}

@@ -1,4 +1,5 @@
 -- A reply that stands in the memory fits a line too.
+-- Tried with `using` of `few`: the proof did not close.
 use Rattle.std.proofs.Common.{rules}
 use Rattle.records.proofs.Putting.{reply_fits}
 use Rattle.records.proofs.Printing.{few}

@@ -1,4 +1,5 @@
 -- A report hands out nothing.
+-- Tried with `using` of `none_does`, and `unfolding` of `event_of`: the proof did not close.
 use Rattle.std.proofs.Common.{refl}
 use Rattle.rules.specs.Words.{byte, long}
 use Rattle.rules.specs.Step.{Report}

@@ -1,4 +1,5 @@
 -- One of them more stands there.
+-- Tried with `using` of `puts_more` and `room_more`: the proof did not close.
 use Rattle.records.proofs.Putting.{puts_more, room_more}
 use Rattle.records.proofs.lines.Printer.put_each.Goals as goal
 

@@ -1,4 +1,5 @@
 -- The number, what was handed out and the end make the line.
+-- Tried with `using` of `puts_line`: the proof did not close.
 use Rattle.records.proofs.Putting.{puts_line}
 use Rattle.records.proofs.lines.Printer.put_line.Goals as goal
 
