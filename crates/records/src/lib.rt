@@ -13,7 +13,8 @@ use events::{Bench, Turned};
 use lines::Printer;
 use rules::Bridge;
 
-// The bridge as the events leave it, the bytes used and written, and whether a torn record ended the stream; with one that did, the others hold too.
+// The bridge as the events leave it, the bytes used and written, and whether a torn record ended the stream; with one that did, the others hold too. The
+// fields stand one by one, as `run_left` and the clause `used_in_bounds` name them.
 #[derive(Clone, Copy)]
 pub struct Ran {
     pub bridge: Bridge,

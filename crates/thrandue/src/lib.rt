@@ -150,6 +150,7 @@ pub extern "C" fn thrandue_status(image: &mut [u8; IMAGE], reply: &mut [u8]) -> 
     leave(image, bridge::status(b, reply))
 }
 
+// The header's number of the phase; and below, of the halts.
 #[unsafe(no_mangle)]
 pub extern "C" fn thrandue_phase(image: &[u8; IMAGE]) -> u8
     ensures { result ≡ phase_number (decode image.now) }
