@@ -49,7 +49,7 @@ impl TryFrom<u16> for Place {
     }
 }
 
-// Fields are the whole 16-bit numbers, low byte first. No `From`, here and in `packets` and `settings`: it would be public, for one caller.
+// Fields are the whole 16-bit numbers, low byte first. No `From`: it would be public, for one caller.
 fn setup_of(setup: &[u8; 8]) -> Setup
     ensures { result ≡ setup_of setup.now }
 {
