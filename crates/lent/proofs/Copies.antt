@@ -1,27 +1,18 @@
 -- As far as it goes: a row over another, where as much is put there as there is room for.
 use mathlib.Core.Path.{◌≡◌, refl, sym, ◌∙◌}
 use mathlib.Core.List.{List, ◌++◌}
-use Prim.Native.Nat.{ℕ, ◌+◌, ◌-◌, ◌≤◌, min}
+use Prim.Native.Nat.{ℕ, ◌-◌, ◌≤◌, min}
 use native.Mathlib.Nat.{zero-add}
 use native.Mathlib.Omega.{arith}
 use lib.ListN.{length, take, drop, replicate, length-take, length-replicate}
 use lib.Seq.{paste-zero}
-use borrow.Rule.Slice.PartMut.{put_mid}
-use Rattle.std.proofs.lemmas.List.{take-take, take-replicate}
-use Rattle.std.proofs.lemmas.Slice.{put_mid-paste}
+use Rattle.std.proofs.lemmas.List.{take-replicate}
 use Rattle.rules.specs.Words.{over}
 use Rattle.rules.proofs.Rows.{over_pastes}
 
 -- nothing to copy, or a row that ends before the place
 pub over_unmoved : (row : List ℕ) (at : ℕ) (xs : List ℕ) → min (length xs) (length row - at) ≤ 0 → row ≡ over row at xs
 over_unmoved row at xs h = paste-zero row at xs ∙ sym (over_pastes row at xs 0 (omega arith))
-
--- what is copied into a part of it
-pub over_copied : (row : List ℕ) (at : ℕ) (xs : List ℕ) (n : ℕ) (ys : List ℕ) → n ≡ min (length xs) (length row - at) → ys ≡ take n xs
-    → put_mid at (at + n - at) row ys ≡ over row at xs
-over_copied row at xs n ys e f =
-    put_mid-paste at (at + n - at) row ys (take n xs) n f (omega arith) (omega (arith, length-take n xs))
-    ∙ rw (take-take n n xs (omega arith)) (sym (over_pastes row at xs n e))
 
 -- zeros at the front
 pub over_cleared : (row : List ℕ) (n m : ℕ) (ys : List ℕ) → m ≡ min n (length row) → ys ≡ replicate (length (take m row)) 0

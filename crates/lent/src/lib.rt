@@ -1,7 +1,8 @@
 // What the crates above are written with: numbers from bytes, low byte first; a part of a lent slice; and copying into one as far as it goes.
 #![tactic(auto)]
 
-ghost use Rattle.std.specs.Prelude.{◌≡◌, ◌+◌, ◌*◌, replicate};
+ghost use Rattle.std.specs.Prelude.{◌≡◌, ◌+◌, ◌*◌, ◌≤◌, length, replicate};
+ghost use Rattle.std.proofs.Math.Seq.{paste};
 ghost use Rattle.lent.specs.Parts.{PartOf};
 ghost use Rattle.rules.specs.Words.{bytes4, over};
 
@@ -24,15 +25,24 @@ pub fn bytes_of(n: u32) -> [u8; 4]
     n.to_le_bytes()
 }
 
+// By a loop: the library's copy is a call of C's `memmove`, which the archive would need from outside.
+fn copy_all(dst: &mut [u8], at: usize, src: &[u8], n: usize)
+    requires { (at + n ≤ length dst.old) × (n ≤ length src.now) }
+    ensures { dst.new ≡ paste dst.old at src.now n }
+{
+    for i in 0..n {
+        dst[at + i] = src[i];
+    }
+}
+
 // Copies src into dst, from `at` on and as far as dst goes.
-#[tactic(auto, using(crate::proofs::Copies::over_unmoved, crate::proofs::Copies::over_copied))]
+#[tactic(auto, using(crate::proofs::Copies::over_unmoved, rules::proofs::Rows::over_pastes))]
 pub fn copy(dst: &mut [u8], at: usize, src: &[u8])
     ensures { dst.new ≡ over dst.old at src.now }
 {
-    let n = src.len().min(dst.len().saturating_sub(at));
-    // Where there is nothing to copy `at` may lie behind the end, where a part cannot begin.
-    if n > 0 {
-        dst[at..at + n].copy_from_slice(&src[..n]);
+    if at < dst.len() {
+        let n = src.len().min(dst.len() - at);
+        copy_all(dst, at, src, n);
     }
 }
 
