@@ -16,6 +16,7 @@ use Rattle.std.proofs.lemmas.Grind.{flat_map-append}
 use Rattle.std.proofs.lemmas.Slice.{put_mid-paste}
 use Rattle.rules.specs.declared.refusals.Refusal.{Refusal}
 use Rattle.rules.specs.Numbered.{answer_of, count_of}
+use Rattle.lent.specs.Rows.{Put}
 use Rattle.lent.proofs.Rows.{put_put, fits_next}
 use Rattle.records.specs.declared.lines.Printer.{Printer}
 use Rattle.records.specs.Puts.{Puts, Room, HasRoom, line_of}
@@ -43,6 +44,11 @@ module _ {A : Type 0} (f : A → List ℕ) (xs : List A) (i : ℕ) (x : A) (l : 
 
   pub room_more : {b c : Printer} → Room b (each f (drop i xs)) → Puts b (f x) c → Room c (each f (drop (i + 1) xs))
   room_more r q = fits_next (f x) (each f (drop (i + 1) xs)) q.put (rw each_left at r)
+
+-- all of them, in the output that a printer was lent, as it is in the end
+pub puts_all : {A : Type 0} (f : A → List ℕ) (xs : List A) (i : ℕ) → length xs ≤ i → {b c : Printer} → Puts b (each f (take i xs)) c
+    → {row now : List ℕ} {at : ℕ} → b.output.now ≡ row → b.at ≡ at → c.output.now ≡ now → Put row at (each f xs) now c.at
+puts_all f xs i h p lent behind left = rw (← lent, ← behind, ← left, ← take_all i xs h) p.put
 
 -- what `unwrap_or(0)` makes of an answer
 pub counted : (answer : Result ℕ Refusal) → result_unwrap_or answer 0 ≡ count_of answer

@@ -1,6 +1,7 @@
 // Lines, put into the lent output one behind the other.
 ghost use Rattle.std.specs.Prelude.{◌≡◌, [], ◌∷◌, ◌-◌, ◌≤◌, ◌<◌, length, List, ℕ};
 ghost use Rattle.rules.specs.Numbered.{answer_of, count_of};
+ghost use Rattle.lent.specs.Rows.{Put, Fits};
 ghost use Rattle.records.specs.Lines.{digit as digitOf, number, two, hex_byte, hex_word, each};
 
 use rules::refusals::Refusal;
@@ -66,6 +67,19 @@ fn number_of(answer: Result<u16, Refusal>) -> u8
     }
 }
 
+// Each of them, from `at` on; gives the place behind them. By a printer of its own: one that is lent has its place in memory, which is read again behind
+// each byte that is put.
+fn put_all<T: Hex>(output: &mut [u8], at: usize, all: &[T]) -> usize
+    requires { Fits output.old at (each T.hex all.now) }
+    ensures { Put output.old at (each T.hex all.now) output.new result }
+{
+    let mut printer = Printer::behind(output, at);
+    for one in all {
+        one.put_hex(&mut printer);
+    }
+    printer.at
+}
+
 impl<'a> Printer<'a> {
     ghost use Rattle.records.specs.Puts.{Puts, Room, line_of};
 
@@ -73,7 +87,16 @@ impl<'a> Printer<'a> {
         ensures same_reference { result.output.ghost_name ≡ output.entry.ghost_name }
         ensures blank { (result.at ≡ 0) × (result.output.now ≡ output.old) }
     {
-        Printer { output, at: 0 }
+        Printer::behind(output, 0)
+    }
+
+    // Behind what stands there already.
+    fn behind(output: &'a mut [u8], at: usize) -> Self
+        requires { at ≤ length output.old }
+        ensures same_reference { result.output.ghost_name ≡ output.entry.ghost_name }
+        ensures placed { (result.at ≡ at) × (result.output.now ≡ output.old) }
+    {
+        Printer { output, at }
     }
 
     // The bytes that are left.
@@ -129,9 +152,7 @@ impl<'a> Printer<'a> {
         requires { Room self.old (each T.hex all.now) }
         ensures { Puts self.old (each T.hex all.now) self.new }
     {
-        for one in all {
-            one.put_hex(self);
-        }
+        self.at = put_all(self.output, self.at, all);
     }
 
     // The line of an answer, with as much of `out` as was handed out.
