@@ -61,6 +61,8 @@ struct PageByte {
 }
 
 impl From<PageByte> for PageSize {
+    // In line the compiler jumps for each size, and guesses wrong where sizes change from record to record.
+    #[inline(never)]
     fn from(last: PageByte) -> PageSize
         ensures { result ≡ page_of (32 * last.value) }
     {
