@@ -46,12 +46,22 @@ impl Said {
         })
     }
 
+    // The direction as it is reported: 0 where nothing moved.
+    fn direction(self) -> u8
+        ensures { result ≡ moved_number self.moved }
+    {
+        match self.moved {
+            None => 0,
+            Some(direction) => u8::from(direction),
+        }
+    }
+
     // The drive moved data the wrong way, or more than the host asked for. With L = 0 any amount is more.
     #[tactic(auto, using(crate::proofs::Mismatches::mismatch_by))]
     fn is_mismatch(self, length: u32, host: Direction) -> bool
         ensures { result ≡ mismatch length host (moved_number self.moved) self.amount }
     {
-        ((self.amount > 0) & (self.moved != Some(host))) | (self.amount > length)
+        ((self.amount > 0) & (self.direction() != u8::from(host))) | (self.amount > length)
     }
 
     // What it changes, on a command of this direction, tag and L.
@@ -79,7 +89,7 @@ impl Said {
 }
 
 #[tactic(auto, using(outcomes::proofs::Phases::not_busy), unfolding(rules::specs::Answers::report_answer, rules::specs::Step::step, rules::specs::Step::change))]
-pub fn report(b: Bridge, direction: u8, failed: u8, amount: u32) -> Outcome
+pub fn report(b: Bridge, direction: u8, failed: u8, amount: u32) -> Outcome<Refusal>
     ensures { Answers b (λ n. Report direction failed amount) [] result [] }
 {
     if !b.configured {
