@@ -218,6 +218,8 @@ impl<'a> Asked<'a> {
             return Err(Refusal::HostData);
         }
         let length = found.length.min(self.setup.length);
+        let told = descriptors::find(fitted, Part { length, ..found });
+        let length = told.len() as u16;
         Ok(Granted::Descriptor(Part { length, ..found }))
     }
 
