@@ -16,12 +16,13 @@ use outcomes::{Outcome, done};
 use requests::Granted;
 use rules::addresses::StringIndex;
 use rules::fields::{BULK_OUT, FIRST_STRING, MEMORY};
+use rules::refusals::Refusal;
 use rules::{Bridge, Change, Request, Setup, Stands};
 
 // The outcome of a control request, and where its reply stands.
 #[derive(Clone, Copy)]
 pub struct ControlOutcome {
-    pub outcome: Outcome,
+    pub outcome: Outcome<Refusal>,
     pub stands: Stands,
 }
 
@@ -58,7 +59,7 @@ fn halt_of(pipe: u16, b: Bridge) -> u8
 }
 
 // Done, with these bytes for a reply.
-fn reply_with(bytes: &[u8], reply: &mut [u8]) -> Outcome
+fn reply_with(bytes: &[u8], reply: &mut [u8]) -> Outcome<Refusal>
     requires { length bytes.now < 2 ^ 16 }
     ensures { (result ≡ outcome (Ok (length bytes.now)) Change.Nothing) × (reply.new ≡ over reply.old 0 bytes.now) }
 {
@@ -77,7 +78,7 @@ pub fn serve(
     host: &[u8],
     memory: &mut [u8],
     reply: &mut [u8],
-) -> Outcome
+) -> Outcome<Refusal>
     ensures { left_by result bytes.new memory.new reply.new ≡ served r s host.now (world b bytes.old memory.old) reply.old }
 {
     match r {

@@ -11,25 +11,32 @@ ghost use Rattle.rules.specs.Step.{BusReset};
 use rules::refusals::Refusal;
 use rules::{Bridge, Change, Direction, Halts, Phase};
 
-// How many bytes or operations were handed out, or why the event was refused, and what is changed of the bridge.
+// How many bytes or operations were handed out, or why the event was refused, by a `Refusal` in each event; and what is changed of the bridge.
 #[derive(Clone, Copy)]
-pub struct Outcome {
-    pub answer: Result<u16, Refusal>,
+pub struct Outcome<R> {
+    pub answer: Result<u16, R>,
     pub change: Change,
 }
 
-impl From<Refusal> for Outcome {
-    fn from(refusal: Refusal) -> Outcome
-        ensures { result ≡ outcome (Err refusal) Change.Nothing }
-    {
-        Outcome {
-            answer: Err(refusal),
-            change: Change::Nothing,
-        }
+// By a refusal, or by any number that stands for one.
+pub fn refused<R>(refusal: R) -> Outcome<R>
+    ensures { result ≡ outcome (Err refusal) Change.Nothing }
+{
+    Outcome {
+        answer: Err(refusal),
+        change: Change::Nothing,
     }
 }
 
-pub fn done(count: u16, change: Change) -> Outcome
+impl From<Refusal> for Outcome<Refusal> {
+    fn from(refusal: Refusal) -> Outcome<Refusal>
+        ensures { result ≡ outcome (Err refusal) Change.Nothing }
+    {
+        refused(refusal)
+    }
+}
+
+pub fn done(count: u16, change: Change) -> Outcome<Refusal>
     ensures { result ≡ outcome (Ok count) change }
 {
     Outcome {
@@ -39,7 +46,7 @@ pub fn done(count: u16, change: Change) -> Outcome
 }
 
 #[tactic(auto, unfolding(rules::specs::Step::step, rules::specs::Step::change))]
-pub fn bus_reset() -> Outcome
+pub fn bus_reset() -> Outcome<Refusal>
     ensures { (b : Bridge) → Answers b (λ n. BusReset) [] result [] }
 {
     done(0, Change::Sets(false))

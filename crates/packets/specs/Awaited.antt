@@ -6,6 +6,7 @@ use Rattle.rules.specs.declared.CommandPacket.{CommandPacket}
 use Rattle.rules.specs.declared.Drives.{Drives}
 use Rattle.rules.specs.declared.Lun.{Lun}
 use Rattle.rules.specs.declared.Phase.TheVariants.{Awaiting}
+use Rattle.rules.specs.declared.refusals.Refusal.{Refusal}
 use Rattle.rules.specs.declared.refusals.Refusal.TheVariants.{OperationRoom}
 use Rattle.rules.specs.Words.{Check, ◌if◌}
 use Rattle.rules.specs.Packets.{command_of, valid, meaningful, drive_of, begins, command_taken}
@@ -32,7 +33,7 @@ damage_checks drives p =
 abbrev pub meaning_of : Bool → ℕ → Option Lun
 meaning_of meant lun = cond meant (Some (drive_of lun)) None
 
-abbrev pub taken_as : Result ℕ Unmade → Lun → CommandPacket → Outcome
+abbrev pub taken_as : Result ℕ Unmade → Lun → CommandPacket → Outcome Refusal
 taken_as (Ok count) lun c = outcome (Ok count) (begins lun c)
 taken_as (Err Unrecognised) lun c = outcome (Ok 0) (command_taken false c)
 taken_as (Err NoRoom) lun c = outcome (Err OperationRoom) Nothing

@@ -119,7 +119,7 @@ fn failed(c: CommandPacket) -> Change
 }
 
 // What the judgement of its block makes of a meaningful packet.
-fn taken(judgement: Result<u16, Unmade>, lun: Lun, c: CommandPacket) -> Outcome
+fn taken(judgement: Result<u16, Unmade>, lun: Lun, c: CommandPacket) -> Outcome<Refusal>
     ensures { result ≡ taken_as judgement lun c }
 {
     match judgement {
@@ -132,7 +132,12 @@ fn taken(judgement: Result<u16, Unmade>, lun: Lun, c: CommandPacket) -> Outcome
 // A command packet that a bridge awaits, in a dock with so many drives: its block is the part that starts at byte 15. `signature` is configuration
 // byte 0x04.
 #[tactic(auto, using(crate::proofs::Commands::thirty_one))]
-pub fn awaited(drives: Drives, signature: u8, packet: &[u8], operations: &mut [u16]) -> Outcome
+pub fn awaited(
+    drives: Drives,
+    signature: u8,
+    packet: &[u8],
+    operations: &mut [u16],
+) -> Outcome<Refusal>
     ensures { (b : Bridge) → Awaits drives b → AnswersOf b signature (Packet packet.now) operations.old result operations.new }
 {
     match undamaged(drives, packet) {
@@ -172,7 +177,7 @@ pub fn unawaited(b: Bridge) -> Result<(), Refusal>
 }
 
 #[tactic(auto, using(rules::proofs::Promises::packet_unawaited, crate::proofs::Commands::checked_err, rules::proofs::Numbered::not_done))]
-pub fn packet(b: Bridge, signature: u8, packet: &[u8], operations: &mut [u16]) -> Outcome
+pub fn packet(b: Bridge, signature: u8, packet: &[u8], operations: &mut [u16]) -> Outcome<Refusal>
     ensures { AnswersOf b signature (Packet packet.now) operations.old result operations.new }
 {
     match unawaited(b) {

@@ -10,6 +10,7 @@ use lib.Seq.{take_all, take-length, take-append_seam, drop-length, length-take-l
 use borrow.Author.Tests.{eqb-true, ltb-true, ltb-false}
 use borrow.Rule.Reborrow.{re_v}
 use Rattle.std.proofs.lemmas.List.{nil_from_length}
+use Rattle.rules.specs.declared.refusals.Refusal.{Refusal}
 use Rattle.rules.specs.declared.Stands.{Stands}
 use Rattle.rules.specs.declared.Stands.TheVariants.{InRoom, InMemory}
 use Rattle.rules.specs.Words.{laid}
@@ -41,7 +42,7 @@ few memory count Operations there = omega arith
 abbrev pub left_with : Bench → (bytes memory reply operations : List ℕ) → Bench
 left_with b bytes memory reply operations = record { bridge = b.bridge; bytes = re_v bytes b.bytes; memory = re_v memory b.memory; reply = reply; operations = operations }
 
-module _ (before : Bench) (event : ℕ → Event) (room : List ℕ) (stands : Stands) (o : Outcome) {bytes memory now : List ℕ}
+module _ (before : Bench) (event : ℕ → Event) (room : List ℕ) (stands : Stands) (o : Outcome Refusal) {bytes memory now : List ℕ}
     (h : left_at stands (answer_of o.answer) (count_of o.answer) o.change bytes memory now ≡ leaves (world_of before) event room) where
   abbrev w : World
   w = world_of before
@@ -77,7 +78,7 @@ module _ (before : Bench) (event : ℕ → Event) (room : List ℕ) (stands : St
 
 -- ---- what stands in the lent room
 
-module _ (before : Bench) (event : ℕ → Event) (room : List ℕ) (o : Outcome) {bytes memory now : List ℕ} (h : left_by o bytes memory now ≡ leaves (world_of before) event room) where
+module _ (before : Bench) (event : ℕ → Event) (room : List ℕ) (o : Outcome Refusal) {bytes memory now : List ℕ} (h : left_by o bytes memory now ≡ leaves (world_of before) event room) where
   abbrev handed : List ℕ
   handed = out before event room InRoom o h
 
@@ -110,7 +111,7 @@ module _ (before : Bench) (event : ℕ → Event) (room : List ℕ) (o : Outcome
       does before event room InRoom o h hex_word hex none now front_of_room Operations refl (omega (arith, count_fits same))
 
 -- where there is no room, nothing is handed out
-pub none_does : (before : Bench) (event : ℕ → Event) (o : Outcome) → left_by o before.bytes.now before.memory.now [] ≡ leaves (world_of before) event []
+pub none_does : (before : Bench) (event : ℕ → Event) (o : Outcome Refusal) → left_by o before.bytes.now before.memory.now [] ≡ leaves (world_of before) event []
     → hex_of (event 0) ≡ hex_byte → held_after (world_of before) (event 0) ≡ []
     → Does before (event 0) (record { answer = o.answer; handed = Reply InRoom }) (changed_by o before)
 none_does before event o h hex none =
@@ -119,7 +120,7 @@ none_does before event o h hex none =
 
 -- ---- what a control request hands out, wherever it stands
 
-module _ (before : Bench) (setup host room : List ℕ) (o : Outcome) where
+module _ (before : Bench) (setup host room : List ℕ) (o : Outcome Refusal) where
   abbrev asked : Event
   asked = Control setup host (length room)
 

@@ -29,7 +29,7 @@ pub record Lent (old new : Bench) : Type 0 where
   pub bytes : new.bytes.ghost_name ≡ old.bytes.ghost_name
   pub memory : new.memory.ghost_name ≡ old.memory.ghost_name
 
-abbrev pub changed_by : Outcome → Bench → Bench
+abbrev pub changed_by : Outcome Refusal → Bench → Bench
 changed_by o b = record b { bridge = made o.change b.bridge }
 
 -- as much is there as is handed out, and no more than a line has room for

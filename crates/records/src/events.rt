@@ -74,7 +74,7 @@ impl<'a> Bench<'a> {
     }
 
     // Makes the change. What was handed out is still to be printed.
-    fn done(&mut self, o: Outcome, handed: Handed) -> Answered
+    fn done(&mut self, o: Outcome<Refusal>, handed: Handed) -> Answered
         ensures { (self.new ≡ changed_by o self.old) × (result ≡ record { answer = o.answer; handed = handed }) }
     {
         self.bridge = bridge::changed(o.change, self.bridge);

@@ -33,7 +33,7 @@ use Rattle.image.specs.Image.{bytes_of, held_of, decode, world_of}
 use Rattle.image.proofs.Holding.{counted_of_image}
 use Rattle.thrandue.specs.Calls.{called, returns, LeftInImage, holds, in_image, calls, CallTold}
 
-module _ (image memory : List ℕ) (event : ℕ → Event) (room : List ℕ) (o : Outcome) {memory' room' : List ℕ} where
+module _ (image memory : List ℕ) (event : ℕ → Event) (room : List ℕ) (o : Outcome Refusal) {memory' room' : List ℕ} where
   -- with the configuration bytes written
   pub written : {bytes now : List ℕ} → left_by o bytes memory' room' ≡ leaves (world_of image memory) event room
       → now ≡ holds (event (length room)) (bytes ++ drop 16 image)
@@ -56,7 +56,7 @@ module _ (image memory : List ℕ) (event : ℕ → Event) (room : List ℕ) (o 
 
 module _ (image memory : List ℕ) (setup host room : List ℕ) where
   -- with what a granted request leaves, of the state as it was loaded
-  pub granted : (o : Outcome) {memory' room' : List ℕ} (q : Request) (s : Setup) {bytes now : List ℕ} {b : Bridge} → b ≡ decode image
+  pub granted : (o : Outcome Refusal) {memory' room' : List ℕ} (q : Request) (s : Setup) {bytes now : List ℕ} {b : Bridge} → b ≡ decode image
       → left_by o bytes memory' room' ≡ served q s host (world b (bytes_of image) memory) room
       → served q s host (world_of image memory) room ≡ leaves (world_of image memory) (Control setup host) room → now ≡ bytes ++ drop 16 image
       → {returned : ℕ} {image' : List ℕ} → LeftInImage o now returned image'

@@ -6,6 +6,7 @@ use Rattle.rules.specs.declared.Phase.{Phase}
 use Rattle.rules.specs.declared.Phase.TheVariants.{Awaiting, Busy, StatusWaiting, Stopped}
 use Rattle.rules.specs.declared.Stands.{Stands}
 use Rattle.rules.specs.declared.Stands.TheVariants.{InRoom, InMemory}
+use Rattle.rules.specs.declared.refusals.Refusal.{Refusal}
 use Rattle.rules.specs.Words.{one}
 use Rattle.rules.specs.Numbered.{answer_of, count_of}
 use Rattle.rules.specs.declared.Change.TheVariants.{Drops}
@@ -33,7 +34,7 @@ returns answer count InRoom = answer + 256 * count
 returns answer count (InMemory at) = answer + 256 * count + 0x100000000 * (0x10000 + start_of at)
 
 -- what an outcome returns, and leaves in an image
-abbrev pub LeftInImage : Outcome → List ℕ → ℕ → List ℕ → Type 0
+abbrev pub LeftInImage : Outcome Refusal → List ℕ → ℕ → List ℕ → Type 0
 LeftInImage o image returned image' = (returned ≡ returns (answer_of o.answer) (count_of o.answer) InRoom) × (image' ≡ put o.change image)
 
 -- what an event makes of what is held, in an image, beside what its change does

@@ -26,7 +26,7 @@ const NO_LUN: u8 = 0xFF;
 
 // What an event leaves in the image and returns. Out of line it gets an outcome through memory, and a status request takes twice the instructions: tried.
 #[inline(always)]
-fn leave(image: &mut [u8; IMAGE], o: Outcome) -> u32
+fn leave(image: &mut [u8; IMAGE], o: Outcome<Refusal>) -> u32
     ensures { LeftInImage o image.old result image.new }
 {
     image::make(image, o.change);
@@ -49,7 +49,7 @@ fn serve(
     host: &[u8],
     memory: &mut [u8],
     reply: &mut [u8],
-) -> Outcome
+) -> Outcome<Refusal>
     ensures { (left_by result (bytes_of image.new) memory.new reply.new ≡ served r s host.now (world b (bytes_of image.old) memory.old) reply.old) × (image.new ≡ bytes_of image.new ++ drop 16 image.old) }
 {
     bridge::serve(r, s, b, &mut image[..16], host, memory, reply)
@@ -97,7 +97,11 @@ pub extern "C" fn thrandue_power_on_with_store(
         page: in_force(PageSize::from(page), read),
         drives: Drives::from(drives),
     };
-    image::power_on_with(image, dock, &read.unwrap_or_default().bytes);
+    // A call for each: of what `unwrap_or_default` gives the settings go through memory.
+    match read {
+        Ok(settings) => image::power_on_with(image, dock, &settings.bytes),
+        Err(_) => image::power_on_with(image, dock, &Settings::default().bytes),
+    }
     in_one_number(read.map(|_| 0))
 }
 
