@@ -47,7 +47,8 @@ fn read(s: Setup, bytes: &[u8], memory: &[u8], reply: &mut [u8])
     lent::copy(reply, 0, part);
 }
 
-fn halt_of(pipe: u16, b: Bridge) -> u8
+// As Get Status replies it, a number of two bytes: stored one by one and then copied at once, two bytes make the processor wait.
+fn halt_of(pipe: u16, b: Bridge) -> u16
     ensures { result ≡ one (halt_of pipe b) }
 {
     let halted = if pipe == BULK_OUT {
@@ -55,7 +56,7 @@ fn halt_of(pipe: u16, b: Bridge) -> u8
     } else {
         b.halts.inward
     };
-    halted as u8
+    halted as u16
 }
 
 // Done, with these bytes for a reply.
@@ -85,7 +86,7 @@ pub fn serve(
         Request::SetConfiguration => done(0, Change::Sets(s.value == 2)),
         Request::GetConfiguration => reply_with(&[b.configuration()], reply),
         Request::ClearFeature => done(0, recovery::clear_feature(s.index, b)),
-        Request::GetStatus => reply_with(&[halt_of(s.index, b), 0], reply),
+        Request::GetStatus => reply_with(&halt_of(s.index, b).to_le_bytes(), reply),
         Request::GetMaxLun => reply_with(&[b.dock.drives.max_lun()], reply),
         // A stop notes that it has come.
         Request::MassStorageReset => done(0, recovery::reset(b.phase, Change::Notes)),

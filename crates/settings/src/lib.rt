@@ -23,10 +23,10 @@ impl Default for Settings {
     ghost is_default = { λ settings. settings ≡ hidden };
 
     fn default() -> Settings {
-        let mut bytes = [0; 14];
-        bytes.copy_from_slice(&rules::power_on_bytes()[FIRST_SETTING..]);
+        let power_on = rules::power_on_bytes();
+        // As an array: by the library, a copy into one goes through memory.
         Settings {
-            bytes,
+            bytes: *power_on[FIRST_SETTING..].as_array().unwrap(),
             page: PageSize::Of32,
         }
     }
