@@ -71,7 +71,7 @@ impl Kind {
         ensures { result ≡ length_at (kind_number self) memory.now at }
     {
         match self {
-            Kind::Configuration => u16::from_le_bytes([memory[at + 2], memory[at + 3]]),
+            Kind::Configuration => lent::word(memory[at + 2], memory[at + 3]),
             _ => u16::from(memory[at]),
         }
     }

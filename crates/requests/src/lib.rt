@@ -56,9 +56,9 @@ fn setup_of(setup: &[u8; 8]) -> Setup
     Setup {
         kind: setup[0],
         code: setup[1],
-        value: u16::from_le_bytes([setup[2], setup[3]]),
-        index: u16::from_le_bytes([setup[4], setup[5]]),
-        length: u16::from_le_bytes([setup[6], setup[7]]),
+        value: lent::word(setup[2], setup[3]),
+        index: lent::word(setup[4], setup[5]),
+        length: lent::word(setup[6], setup[7]),
     }
 }
 

@@ -108,12 +108,12 @@ fn read_record(store: &[u8]) -> Result<Record<'_>, Refusal>
     let &[l0, l1, k0, k1, ref rest @ ..] = store else {
         return Err(Refusal::CutRecord);
     };
-    let length = u16::from_le_bytes([l0, l1]) as usize;
+    let length = lent::word(l0, l1) as usize;
     if rest.len() < length {
         return Err(Refusal::CutRecord);
     }
     let (payload, behind) = rest.split_at(length);
-    let kind = Kind::try_from(u16::from_le_bytes([k0, k1]))?;
+    let kind = Kind::try_from(lent::word(k0, k1))?;
     let settings = settings_in(kind, payload)?;
     Ok(Record { settings, behind })
 }
