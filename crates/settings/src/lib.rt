@@ -24,7 +24,7 @@ impl Default for Settings {
 
     fn default() -> Settings {
         let power_on = rules::power_on_bytes();
-        // As an array: by the library, a copy into one goes through memory.
+        // As an array: the library's copy into one would go through memory.
         Settings {
             bytes: *power_on[FIRST_SETTING..].as_array().unwrap(),
             page: PageSize::Of32,
